@@ -1,0 +1,15 @@
+-- `crc::Digest::update` meets its contract.
+use mathlib.Core.Path.{ap}
+use borrow.Author.Needs.{needs}
+use Rattle.crc.proofs.Parts.{holding}
+use Rattle.crc.proofs.Digest.update.Statement.{statement}
+use Rattle.crc.proofs.Digest.update.Tie as tie
+
+table-from-requires : tie.Need-table-from-requires
+table-from-requires c κs = search needs
+
+returns : tie.Need-returns
+returns c = ap holding (c .table-from .ensures)
+
+pub update-spec : {M : Type 1} → statement M
+update-spec = tie.close (tie.spec table-from-requires returns)

@@ -1,0 +1,23 @@
+-- The digest's law: a list in two parts gives what the whole gives.
+-- Assumes nothing.
+use mathlib.Core.Path.{_≡_, refl, sym, ap}
+use mathlib.Core.List.{List, [], _++_}
+use Prim.Native.Nat.{ℕ}
+use Rattle.crc.specs.Crc.{crcOf}
+use Rattle.crc.specs.Digest.{digestOf, taken, checksumHeld}
+use Rattle.crc.specs.declared.Digest.{Digest}
+use Rattle.crc.proofs.Linear.{crcFrom-nil, crcFrom-++}
+
+-- a digest by its register
+abbrev pub holding : ℕ → Digest
+holding r = record { register = r }
+
+pub digest-none : holding 65535 ≡ digestOf []
+digest-none = ap holding (sym (crcFrom-nil 65535))
+
+-- the octets s after the octets l
+pub digest-parts : (l s : List ℕ) → taken (digestOf l) s ≡ digestOf (l ++ s)
+digest-parts l s = ap holding (sym (crcFrom-++ 65535 l s))
+
+pub digest-held : (l : List ℕ) → checksumHeld (digestOf l) ≡ crcOf l
+digest-held l = refl

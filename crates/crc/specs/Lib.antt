@@ -1,0 +1,6 @@
+pub mod Crc
+pub mod Error
+pub mod Division
+pub mod Digest
+pub mod Table
+pub mod Cases

@@ -1,0 +1,26 @@
+-- The errors that the checksum detects, by the bits that they change. An error is a row of octets as long as the
+-- message: its set bits are the places that it changes, counted from the most significant bit of the first octet.
+use mathlib.Core.Path.{_≡_}
+use mathlib.Core.Bool.{Bool, true, false}
+use mathlib.Core.List.{List, [], _∷_}
+use Prim.Native.Nat.{ℕ, suc, _+_, _%_, _≤_, _<_}
+use lib.ListN.{getD}
+use Rattle.crc.specs.Crc.{bitsOf}
+
+-- how many bits are set
+unfoldable pub ones : List Bool → ℕ
+ones [] = 0
+ones (true ∷ bs) = suc (ones bs)
+ones (false ∷ bs) = ones bs
+
+-- one or more bits are set, and all of them lie within the run of 16 consecutive bits from `first` on
+pub record Burst (bs : List Bool) : Type 0 where
+  pub first : ℕ
+  pub within : (k : ℕ) → getD bs k false ≡ true → (first ≤ k) × (k < first + 16)
+  pub place : ℕ
+  pub set : getD bs place false ≡ true
+
+-- an odd number of bits, or one or more bits all within a run of 16
+pub data Error (e : List ℕ) : Type 0 where
+  odd : ones (bitsOf e) % 2 ≡ 1 → Error e
+  burst : Burst (bitsOf e) → Error e

@@ -1,0 +1,1 @@
+// What the checksum detects: theorems only, in proofs/.
