@@ -1,0 +1,114 @@
+-- Laws of answers: what an answer says of its checks, and that a number with its values tells the refusal.
+use Prim.Native.Nat.{ℕ}
+use mathlib.Core.Path.{_≡_, refl, sym, ap, _∙_}
+use mathlib.Core.Bool.{Bool, true, false}
+use mathlib.Core.List.{List, _++_}
+use native.Mathlib.Omega.{arith}
+use lib.ListN.{getD, drop}
+use lib.Dec.{eqb}
+use Rattle.space_packet.specs.Bits.{pick}
+use Rattle.space_packet.specs.Answer.{Numbers, Answer, Passed, gives, refuses, refuseIf, _then_, setIf, numbersOf}
+use Rattle.space_packet.specs.Header.{leftBy}
+use Rattle.space_packet.specs.declared.PusError.{PusError}
+use Rattle.space_packet.specs.declared.PusError.the-variants as E
+use Rattle.space_packet.specs.declared.ByteConversionError.the-variants.{ToSliceTooSmall, FromSliceTooSmall}
+
+-- what has a left inverse tells its argument
+pub by-inverse : {A B : Type 0} (f : A → B) (g : B → A) → ((x : A) → g (f x) ≡ x) → (x y : A) → f x ≡ f y → x ≡ y
+by-inverse f g back x y p = sym (back x) ∙ ap g p ∙ back y
+
+pub gives-inj : {A : Type 0} (x y : A) → gives x ≡ gives y → x ≡ y
+gives-inj x y e = cc
+
+pub refuses-inj : {A : Type 0} (d e : Numbers) → _≡_ {A = Answer A} (refuses d) (refuses e) → d ≡ e
+refuses-inj d e p = cc
+
+pub never : {A : Type 0} (x : A) (e : Numbers) → refuses e ≡ gives x → ⊥
+never x e p = let z : _≡_ {A = ℕ} 0 1 = cc in omega arith
+
+pub refuse-no : {A : Type 0} (b : Bool) (e : Numbers) (k : Answer A) → b ≡ false → refuseIf b e k ≡ k
+unfolding refuseIf
+refuse-no b e k p = ap (λ (x : Bool). refuseIf x e k) p
+
+pub refuse-yes : {A : Type 0} (b : Bool) (e : Numbers) (k : Answer A) → b ≡ true → refuseIf b e k ≡ refuses e
+unfolding refuseIf
+refuse-yes b e k p = ap (λ (x : Bool). refuseIf x e k) p
+
+pub refuse-gives : {A : Type 0} (b : Bool) (e : Numbers) (k : Answer A) (x : A) → refuseIf b e k ≡ gives x → (b ≡ false) × (k ≡ gives x)
+unfolding refuseIf
+refuse-gives true e k x p = absurd (never x e p)
+refuse-gives false e k x p = (refl, p)
+
+pub then-gives : {A B : Type 0} (a : Answer A) (f : A → Answer B) (y : B) → (a then f) ≡ gives y → (x : A) × (a ≡ gives x) × (f x ≡ gives y)
+unfolding _then_
+then-gives (gives x) f y p = (x, refl, p)
+then-gives (refuses e) f y p = absurd (never y e p)
+
+pub gives-then : {A B : Type 0} (a : Answer A) (f : A → Answer B) (x : A) → a ≡ gives x → (a then f) ≡ f x
+unfolding _then_
+gives-then a f x p = ap (λ (z : Answer _). z then f) p
+
+pub refuses-then : {A B : Type 0} (a : Answer A) (f : A → Answer B) (e : Numbers) → a ≡ refuses e → (a then f) ≡ refuses e
+unfolding _then_
+refuses-then a f e p = ap (λ (z : Answer _). z then f) p
+
+-- a setter keeps the new record where it passed, and the old where it was refused
+pub kept-new : {A : Type 0} (a p : Passed) (old new : A) → a ≡ p → p ≡ gives tt → record { passed = a; kept = new } ≡ setIf p old new
+unfolding setIf
+kept-new a (gives u) old new e q = ap (λ (z : Passed). record { passed = z; kept = new }) e
+kept-new a (refuses d) old new e q = absurd (never tt d q)
+
+pub kept-old : {A : Type 0} (a p : Passed) (old new : A) (d : Numbers) → a ≡ p → p ≡ refuses d → record { passed = a; kept = old } ≡ setIf p old new
+unfolding setIf
+kept-old a (refuses e) old new d p q = ap (λ (z : Passed). record { passed = z; kept = old }) p
+kept-old a (gives u) old new d p q = absurd (never u d (sym q))
+
+-- what a setter keeps, set in another record
+pub set-in : {A B : Type 0} (f : A → B) (p : Passed) (old new : A) → record { passed = setIf p old new .passed; kept = f (setIf p old new .kept) } ≡ setIf p (f old) (f new)
+unfolding setIf
+set-in f (gives u) old new = refl
+set-in f (refuses e) old new = refl
+
+-- what a write leaves, refused or done
+pub left-refused : (a : Answer ℕ) (p before : List ℕ) (e : Numbers) → a ≡ refuses e → leftBy a p before ≡ before
+left-refused a p before e q = ap (λ (z : Answer ℕ). leftBy z p before) q
+
+pub left-written : (a : Answer ℕ) (p before : List ℕ) (n : ℕ) → a ≡ gives n → leftBy a p before ≡ p ++ drop n before
+left-written a p before n q = ap (λ (z : Answer ℕ). leftBy z p before) q
+
+-- ---- the refusal of a number and its values
+
+pub errorOf : Numbers → PusError
+errorOf n =
+    pick (eqb (n .number) 1) (E.ByteConversion (ToSliceTooSmall (getD (n .values) 0 0) (getD (n .values) 1 0)))
+    (pick (eqb (n .number) 2) (E.ByteConversion (FromSliceTooSmall (getD (n .values) 0 0) (getD (n .values) 1 0)))
+    (pick (eqb (n .number) 3) (E.VersionNotSupported (getD (n .values) 0 0))
+    (pick (eqb (n .number) 4) (E.ChecksumFailure (getD (n .values) 0 0))
+    (pick (eqb (n .number) 5) E.CrcCalculationMissing
+    (pick (eqb (n .number) 6) (E.PacketTooLong (getD (n .values) 0 0))
+    (pick (eqb (n .number) 7) (E.FieldRange (getD (n .values) 0 0) (getD (n .values) 1 0))
+    (pick (eqb (n .number) 8) E.Reservation
+    (pick (eqb (n .number) 9) (E.PacketVersion (getD (n .values) 0 0))
+    (pick (eqb (n .number) 10) E.PacketTypeTm E.NoSecondaryHeader)))))))))
+
+pub error-back : (e : PusError) → errorOf (numbersOf e) ≡ e
+unfolding errorOf
+error-back (E.ByteConversion (ToSliceTooSmall a b)) = refl
+error-back (E.ByteConversion (FromSliceTooSmall a b)) = refl
+error-back (E.VersionNotSupported v) = refl
+error-back (E.ChecksumFailure c) = refl
+error-back E.CrcCalculationMissing = refl
+error-back (E.PacketTooLong n) = refl
+error-back (E.FieldRange p v) = refl
+error-back E.Reservation = refl
+error-back (E.PacketVersion n) = refl
+error-back E.PacketTypeTm = refl
+error-back E.NoSecondaryHeader = refl
+
+pub numbers-inj : (e f : PusError) → numbersOf e ≡ numbersOf f → e ≡ f
+numbers-inj = by-inverse numbersOf errorOf error-back
+
+-- the result of an answer, by its two constructors: what each result's answer is undone by
+unfoldable pub resultOf : {A R : Type 0} → (A → R) → (PusError → R) → Answer A → R
+resultOf ok err (gives a) = ok a
+resultOf ok err (refuses n) = err (errorOf n)

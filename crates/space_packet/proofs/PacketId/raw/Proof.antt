@@ -1,0 +1,44 @@
+use native.Mathlib.Omega.{arith}
+use Rattle.space_packet.proofs.Numbers.{type-le, bool-le, bool-flag}
+use Rattle.space_packet.specs.Fields.{idRaw}
+use borrow.Author.Needs.{needs}
+use Rattle.space_packet.proofs.PacketId.raw.Statement.{statement}
+use Rattle.space_packet.proofs.PacketId.raw.Tie as tie
+
+raw-value-requires : tie.Need-raw-value-requires
+raw-value-requires c κs = search needs
+
+cast-t : tie.Need-cast-t
+cast-t c = search needs
+
+cast-f : tie.Need-cast-f
+cast-f c = search needs
+
+mul-result : tie.Need-mul-result
+mul-result c = omega (arith, type-le (c .before .before .args .self .«packet_type»))
+
+mul-result-2 : tie.Need-mul-result-2
+mul-result-2 c = omega (arith, bool-le (c .before .before .args .self .«sec_header_flag»))
+
+add-result : tie.Need-add-result
+add-result c = omega (arith, type-le (c .before .before .args .self .«packet_type»), bool-le (c .before .before .args .self .«sec_header_flag»))
+
+add-result-2 : tie.Need-add-result-2
+add-result-2 c = let i = c .before .before .before .args .self in omega (arith, type-le (i .«packet_type»), bool-le (i .«sec_header_flag»))
+
+returns : tie.Need-returns
+unfolding idRaw
+returns c = omega (arith, bool-flag (c .before .before .before .args .self .«sec_header_flag»))
+
+pub raw-spec : {M : Type 1} → statement M
+raw-spec =
+    tie.close
+    (tie.spec
+    raw-value-requires
+    cast-t
+    cast-f
+    mul-result
+    mul-result-2
+    add-result
+    add-result-2
+    returns)

@@ -1,0 +1,52 @@
+-- Headers are the same, by the call, where they are equal and only there.
+use mathlib.Core.Path.{_≡_, refl, sym, ap, _∙_}
+use mathlib.Core.Bool.{Bool, true, false, _&&_}
+use mathlib.Core.Logic.{_↔_}
+use Prim.Native.Nat.{ℕ}
+use native.Mathlib.Omega.{arith}
+use lib.Dec.{eqb}
+use borrow.Author.Tests.{eqb-true, eq-eqb}
+use Rattle.space_packet.specs.Bits.{flagNumber, lowest}
+use Rattle.space_packet.specs.Fields.{typeNumber, typeOf, flagsNumber, flagsOf}
+use Rattle.space_packet.specs.Header.{sameHeader}
+use Rattle.space_packet.specs.declared.SpacePacketHeader.{SpacePacketHeader}
+use Rattle.space_packet.proofs.Answers.{by-inverse}
+use Rattle.space_packet.proofs.Numbers.{type-back, flag-back, flags-back}
+
+and-both : (a b : Bool) → (a && b) ≡ true → (a ≡ true) × (b ≡ true)
+and-both true b p = (refl, p)
+and-both false b p = let z : _≡_ {A = ℕ} 0 1 = cc in absurd (omega arith)
+
+equal-fields : (g h : SpacePacketHeader) → sameHeader g h ≡ true → g ≡ h
+unfolding sameHeader
+equal-fields g h p =
+    let t = eqb (typeNumber (g .«packet_id» .«packet_type»)) (typeNumber (h .«packet_id» .«packet_type»)) in
+    let f = eqb (flagNumber (g .«packet_id» .«sec_header_flag»)) (flagNumber (h .«packet_id» .«sec_header_flag»)) in
+    let a = eqb (g .«packet_id» .apid .0) (h .«packet_id» .apid .0) in
+    let s = eqb (flagsNumber (g .psc .«seq_flags»)) (flagsNumber (h .psc .«seq_flags»)) in
+    let n = eqb (g .psc .«seq_count» .0) (h .psc .«seq_count» .0) in
+    let v = eqb (g .version) (h .version) in
+    let pd = and-both (v && t && f && a && s && n) (eqb (g .«data_len») (h .«data_len»)) p in
+    let pn = and-both (v && t && f && a && s) n (pd .0) in
+    let ps = and-both (v && t && f && a) s (pn .0) in
+    let pa = and-both (v && t && f) a (ps .0) in
+    let pf = and-both (v && t) f (pa .0) in
+    let pt = and-both v t (pf .0) in
+    let ev : g .version ≡ h .version = eqb-true _ _ (pt .0) in
+    let et = by-inverse typeNumber typeOf type-back _ _ (eqb-true _ _ (pt .1)) in
+    let ef = by-inverse flagNumber lowest flag-back _ _ (eqb-true _ _ (pf .1)) in
+    let ea : g .«packet_id» .apid .0 ≡ h .«packet_id» .apid .0 = eqb-true _ _ (pa .1) in
+    let es = by-inverse flagsNumber flagsOf flags-back _ _ (eqb-true _ _ (ps .1)) in
+    let en : g .psc .«seq_count» .0 ≡ h .psc .«seq_count» .0 = eqb-true _ _ (pn .1) in
+    let ed : g .«data_len» ≡ h .«data_len» = eqb-true _ _ (pd .1) in
+    λ i. record { version = ev i; «packet_id» = record { «packet_type» = et i; «sec_header_flag» = ef i; apid = record { 0 = ea i } }; psc = record { «seq_flags» = es i; «seq_count» = record { 0 = en i } }; «data_len» = ed i }
+
+itself : (n : ℕ) → eqb n n ≡ true
+itself n = eq-eqb n n refl
+
+same-itself : (h : SpacePacketHeader) → sameHeader h h ≡ true
+unfolding sameHeader
+same-itself h = simp itself
+
+pub same-header : (g h : SpacePacketHeader) → (sameHeader g h ≡ true) ↔ (g ≡ h)
+same-header g h = (equal-fields g h, λ e. ap (sameHeader g) (sym e) ∙ same-itself g)

@@ -1,0 +1,47 @@
+use borrow.Author.Tests.{lt-ltb, le-ltb}
+use Rattle.space_packet.proofs.Answers.{refuse-yes, refuse-no}
+use mathlib.Core.Path.{sym}
+use Rattle.space_packet.specs.Answer.{gives}
+use Rattle.space_packet.specs.Header.{headerRead, readHeader}
+use borrow.Author.Needs.{needs}
+use Rattle.space_packet.proofs.SpacePacketHeader.from_be_bytes.Statement.{statement}
+use Rattle.space_packet.proofs.SpacePacketHeader.from_be_bytes.Tie as tie
+
+returns : tie.Need-returns
+unfolding headerRead
+returns c = sym (refuse-yes _ _ _ (lt-ltb _ _ (c .if1 .taken)))
+
+word-at-requires : tie.Need-word-at-requires
+word-at-requires c κs = search needs
+
+cast-t9 : tie.Need-cast-t9
+cast-t9 c = search needs
+
+from-requires : tie.Need-from-requires
+from-requires c κs = search needs
+
+word-at-requires-2 : tie.Need-word-at-requires-2
+word-at-requires-2 c κs = search needs
+
+from-requires-2 : tie.Need-from-requires-2
+from-requires-2 c κs = search needs
+
+word-at-requires-3 : tie.Need-word-at-requires-3
+word-at-requires-3 c κs = search needs
+
+returns-2 : tie.Need-returns-2
+unfolding headerRead readHeader
+returns-2 c = cc (refuse-no _ _ (gives (readHeader _)) (le-ltb _ _ (c .before .before .before .before .before .if1 .left)))
+
+pub from-be-bytes-spec : {M : Type 1} → statement M
+from-be-bytes-spec =
+    tie.close
+    (tie.spec
+    returns
+    word-at-requires
+    cast-t9
+    from-requires
+    word-at-requires-2
+    from-requires-2
+    word-at-requires-3
+    returns-2)

@@ -1,0 +1,82 @@
+-- What calls answer: a value, or a refusal in its number and its values.
+use Prim.Native.Nat.{ℕ}
+use mathlib.Core.Bool.{Bool, true, false}
+use mathlib.Core.List.{List, [], _∷_}
+use lib.Dec.{ltb}
+use Rattle.space_packet.specs.declared.PusError.{PusError}
+use Rattle.space_packet.specs.declared.PusError.the-variants as E
+use Rattle.space_packet.specs.declared.ByteConversionError.{ByteConversionError}
+use Rattle.space_packet.specs.declared.ByteConversionError.the-variants.{ToSliceTooSmall, FromSliceTooSmall}
+use Rattle.space_packet.specs.declared.CheckResult.{CheckResult}
+use Rattle.space_packet.specs.declared.CheckResult.the-variants as C
+use Rattle.space_packet.specs.declared.SizeResult.{SizeResult}
+use Rattle.space_packet.specs.declared.SizeResult.the-variants as S
+
+-- a refusal's number and its values
+pub record Numbers : Type 0 where
+  pub number : ℕ
+  pub values : List ℕ
+
+abbrev pub no : ℕ → List ℕ → Numbers
+no k v = record { number = k; values = v }
+
+-- a value, or a refusal
+pub data Answer (A : Type 0) : Type 0 where
+  gives : A → Answer A
+  refuses : Numbers → Answer A
+
+-- refused where the test holds, and else what follows
+unfoldable pub refuseIf : {A : Type 0} → Bool → Numbers → Answer A → Answer A
+refuseIf true e k = refuses e
+refuseIf false e k = k
+
+infixr 40 _then_
+-- a refusal ends it; a value goes on
+unfoldable pub _then_ : {A B : Type 0} → Answer A → (A → Answer B) → Answer B
+refuses e then f = refuses e
+gives a then f = f a
+
+-- a check that gives nothing but its passing
+abbrev pub Passed : Type 0
+Passed = Answer (Unit {0})
+
+-- what a setter hands back: whether it was refused, and the record, the old one where it was
+pub record Kept (A : Type 0) : Type 0 where
+  pub passed : Passed
+  pub kept : A
+
+unfoldable pub setIf : {A : Type 0} → Passed → A → A → Kept A
+setIf (refuses e) old new = record { passed = refuses e; kept = old }
+setIf (gives u) old new = record { passed = gives u; kept = new }
+
+-- ---- the numbers of refusal, 1 to 11
+
+abbrev pub bytesNumbers : ByteConversionError → Numbers
+bytesNumbers (ToSliceTooSmall found expected) = no 1 (found ∷ expected ∷ [])
+bytesNumbers (FromSliceTooSmall found expected) = no 2 (found ∷ expected ∷ [])
+
+abbrev pub numbersOf : PusError → Numbers
+numbersOf (E.ByteConversion e) = bytesNumbers e
+numbersOf (E.VersionNotSupported nibble) = no 3 (nibble ∷ [])
+numbersOf (E.ChecksumFailure stored) = no 4 (stored ∷ [])
+numbersOf E.CrcCalculationMissing = no 5 []
+numbersOf (E.PacketTooLong length) = no 6 (length ∷ [])
+numbersOf (E.FieldRange place value) = no 7 (place ∷ value ∷ [])
+numbersOf E.Reservation = no 8 []
+numbersOf (E.PacketVersion number) = no 9 (number ∷ [])
+numbersOf E.PacketTypeTm = no 10 []
+numbersOf E.NoSecondaryHeader = no 11 []
+
+-- a field's value is at most its largest, or is refused with its place
+abbrev pub inRange : ℕ → ℕ → ℕ → Passed
+inRange place largest value = refuseIf (ltb largest value) (no 7 (place ∷ value ∷ [])) (gives tt)
+
+-- ---- the answers of this crate's calls
+
+abbrev pub checkAnswer : CheckResult → Passed
+checkAnswer C.Ok = gives tt
+checkAnswer (C.Err e) = refuses (numbersOf e)
+
+abbrev pub sizeAnswer : SizeResult → Answer ℕ
+sizeAnswer (S.Ok n) = gives n
+sizeAnswer (S.Err e) = refuses (numbersOf e)

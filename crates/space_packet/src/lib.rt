@@ -1,0 +1,796 @@
+// The space packet primary header of CCSDS 133.0-B, and the refusals that every crate above answers with.
+ghost use mathlib.Core.Path.{_≡_};
+ghost use mathlib.Core.List.{_++_};
+ghost use mathlib.Core.Bool.{true, false};
+ghost use Prim.Native.Nat.{_≤_};
+ghost use lib.ListN.{length, drop};
+ghost use lib.Dec.{eqb};
+ghost use Rattle.space_packet.specs.Answer.{numbersOf, gives, _then_, setIf, inRange, checkAnswer};
+ghost use Rattle.space_packet.specs.Bits.{word};
+ghost use Rattle.space_packet.specs.Fields.{apidCheck, countCheck, apidAnswer, seqCountAnswer, typeNumber, typeOf, flagsNumber, flagsOf, idRaw, idOf, pscRaw, pscOf, idWithApid, idKept};
+ghost use Rattle.space_packet.specs.Header.{headerOctets, totalOf, InRange, headerCheck, spHeaderAnswer, headerRead, headerWrite, headerOf, idFrom, pscFrom, withId, withPsc, headerKept, sameHeader};
+ghost use Rattle.space_packet.specs.Wrote.{Wrote};
+ghost use Rattle.space_packet.specs.declared.PacketType.the-variants.{Tm, Tc};
+ghost use Rattle.space_packet.specs.declared.SequenceFlags.the-variants.{Unsegmented};
+
+// Length of the primary header.
+pub const CCSDS_HEADER_LEN: usize = 6;
+
+// ---- refusals
+
+// Why octets could not be written or read: how many there were, and how many it takes.
+pub enum ByteConversionError {
+    ToSliceTooSmall { found: usize, expected: usize },
+    FromSliceTooSmall { found: usize, expected: usize },
+}
+
+// Every refusal of the library, in the order of its numbers.
+pub enum PusError {
+    // 1 and 2
+    ByteConversion(ByteConversionError),
+    // 3, with the nibble
+    VersionNotSupported(u8),
+    // 4, with the checksum that was stored, or handed in
+    ChecksumFailure(u16),
+    // 5
+    CrcCalculationMissing,
+    // 6, with the length of the application data
+    PacketTooLong(usize),
+    // 7: place 1 is the packet version number, 2 the APID, 3 the sequence count, 4 the acknowledgement flags
+    FieldRange { place: u8, value: u16 },
+    // 8
+    Reservation,
+    // 9, with the packet version number
+    PacketVersion(u8),
+    // 10
+    PacketTypeTm,
+    // 11
+    NoSecondaryHeader,
+}
+
+impl PusError {
+    // The number of the refusal.
+    pub fn number(self) -> u8
+        ensures { λ r. ⌜ r ≡ numbersOf self .number ⌝ }
+    {
+        match self {
+            PusError::ByteConversion(e) => match e {
+                ByteConversionError::ToSliceTooSmall {
+                    found: _,
+                    expected: _,
+                } => 1,
+                ByteConversionError::FromSliceTooSmall {
+                    found: _,
+                    expected: _,
+                } => 2,
+            },
+            PusError::VersionNotSupported(_) => 3,
+            PusError::ChecksumFailure(_) => 4,
+            PusError::CrcCalculationMissing => 5,
+            PusError::PacketTooLong(_) => 6,
+            PusError::FieldRange { place: _, value: _ } => 7,
+            PusError::Reservation => 8,
+            PusError::PacketVersion(_) => 9,
+            PusError::PacketTypeTm => 10,
+            PusError::NoSecondaryHeader => 11,
+        }
+    }
+}
+
+// The Rust's Result<(), PusError>.
+pub enum CheckResult {
+    Ok,
+    Err(PusError),
+}
+
+// The Rust's Result<usize, PusError>: how many octets were written.
+pub enum SizeResult {
+    Ok(usize),
+    Err(PusError),
+}
+
+// 7 where the value is above the largest of its field.
+fn in_range(place: u8, largest: u16, value: u16) -> CheckResult
+    ensures { λ r. ⌜ checkAnswer r ≡ inRange place largest value ⌝ }
+{
+    if largest < value {
+        return CheckResult::Err(PusError::FieldRange { place, value });
+    }
+    CheckResult::Ok
+}
+
+// ---- the numbers that have a width of their own
+
+// An application process ID, 11 bits.
+pub struct Apid(u16);
+
+// A packet sequence count, 14 bits.
+pub struct SeqCount(u16);
+
+pub const MAX_APID: Apid = Apid(2047);
+
+pub const MAX_SEQ_COUNT: SeqCount = SeqCount(16383);
+
+pub enum ApidResult {
+    Ok(Apid),
+    Err(PusError),
+}
+
+pub enum SeqCountResult {
+    Ok(SeqCount),
+    Err(PusError),
+}
+
+impl Apid {
+    pub fn new(value: u16) -> ApidResult
+        ensures { λ r. ⌜ apidAnswer r ≡ (inRange 2 2047 value then λ _. gives (record { 0 = value })) ⌝ }
+    {
+        let apid = Apid(value);
+        let c = apid.check();
+        match c {
+            CheckResult::Ok => ApidResult::Ok(apid),
+            CheckResult::Err(e) => ApidResult::Err(e),
+        }
+    }
+
+    pub fn value(self) -> u16
+        ensures { λ r. ⌜ r ≡ self .0 ⌝ }
+    {
+        self.0
+    }
+
+    // What a setter and a write ask of an APID that is handed in.
+    pub fn check(self) -> CheckResult
+        ensures { λ r. ⌜ checkAnswer r ≡ apidCheck self ⌝ }
+    {
+        in_range(2, 2047, self.0)
+    }
+}
+
+impl SeqCount {
+    pub fn new(value: u16) -> SeqCountResult
+        ensures { λ r. ⌜ seqCountAnswer r ≡ (inRange 3 16383 value then λ _. gives (record { 0 = value })) ⌝ }
+    {
+        let count = SeqCount(value);
+        let c = count.check();
+        match c {
+            CheckResult::Ok => SeqCountResult::Ok(count),
+            CheckResult::Err(e) => SeqCountResult::Err(e),
+        }
+    }
+
+    pub fn value(self) -> u16
+        ensures { λ r. ⌜ r ≡ self .0 ⌝ }
+    {
+        self.0
+    }
+
+    // What a setter and a write ask of a count that is handed in.
+    pub fn check(self) -> CheckResult
+        ensures { λ r. ⌜ checkAnswer r ≡ countCheck self ⌝ }
+    {
+        in_range(3, 16383, self.0)
+    }
+}
+
+// ---- the packet type and the sequence flags
+
+pub enum PacketType {
+    Tm,
+    Tc,
+}
+
+impl PacketType {
+    pub fn raw_value(self) -> u8
+        ensures { λ r. ⌜ r ≡ typeNumber self ⌝ }
+    {
+        match self {
+            PacketType::Tm => 0,
+            PacketType::Tc => 1,
+        }
+    }
+
+    // The type of the lowest bit.
+    pub fn new_with_raw_value(value: u8) -> PacketType
+        ensures { λ r. ⌜ r ≡ typeOf value ⌝ }
+    {
+        if value % 2 == 1 {
+            PacketType::Tc
+        } else {
+            PacketType::Tm
+        }
+    }
+}
+
+pub enum SequenceFlags {
+    ContinuationSegment,
+    FirstSegment,
+    LastSegment,
+    Unsegmented,
+}
+
+impl SequenceFlags {
+    pub fn raw_value(self) -> u8
+        ensures { λ r. ⌜ r ≡ flagsNumber self ⌝ }
+    {
+        match self {
+            SequenceFlags::ContinuationSegment => 0,
+            SequenceFlags::FirstSegment => 1,
+            SequenceFlags::LastSegment => 2,
+            SequenceFlags::Unsegmented => 3,
+        }
+    }
+
+    // The flags of the two lowest bits.
+    pub fn new_with_raw_value(value: u8) -> SequenceFlags
+        ensures { λ r. ⌜ r ≡ flagsOf value ⌝ }
+    {
+        if value / 2 % 2 == 1 {
+            if value % 2 == 1 {
+                return SequenceFlags::Unsegmented;
+            }
+            return SequenceFlags::LastSegment;
+        }
+        if value % 2 == 1 {
+            return SequenceFlags::FirstSegment;
+        }
+        SequenceFlags::ContinuationSegment
+    }
+}
+
+// The packet type in a raw packet ID.
+pub fn packet_type_in_raw_packet_id(packet_id: u16) -> PacketType
+    ensures { λ r. ⌜ r ≡ idOf «packet_id» .«packet_type» ⌝ }
+{
+    PacketType::new_with_raw_value((packet_id / 4096) as u8)
+}
+
+// ---- the packet ID: the last thirteen bits of the first two octets
+
+pub struct PacketId {
+    pub packet_type: PacketType,
+    pub sec_header_flag: bool,
+    pub apid: Apid,
+}
+
+// What a setter hands back: the new packet ID, or the old one with the refusal.
+pub struct PacketIdSet {
+    pub packet_id: PacketId,
+    pub result: CheckResult,
+}
+
+impl PacketId {
+    pub fn default() -> PacketId
+        ensures { λ r. ⌜ r ≡ idFrom Tm false (record { 0 = 0 }) ⌝ }
+    {
+        PacketId::new(PacketType::Tm, false, Apid(0))
+    }
+
+    pub fn new_for_tc(sec_header: bool, apid: Apid) -> PacketId
+        ensures { λ r. ⌜ r ≡ idFrom Tc «sec_header» apid ⌝ }
+    {
+        PacketId::new(PacketType::Tc, sec_header, apid)
+    }
+
+    pub fn new_for_tm(sec_header: bool, apid: Apid) -> PacketId
+        ensures { λ r. ⌜ r ≡ idFrom Tm «sec_header» apid ⌝ }
+    {
+        PacketId::new(PacketType::Tm, sec_header, apid)
+    }
+
+    pub fn new(packet_type: PacketType, sec_header_flag: bool, apid: Apid) -> PacketId
+        ensures { λ r. ⌜ r ≡ idFrom «packet_type» «sec_header_flag» apid ⌝ }
+    {
+        PacketId {
+            packet_type,
+            sec_header_flag,
+            apid,
+        }
+    }
+
+    // 7 where the APID is over its width.
+    pub fn set_apid(self, apid: Apid) -> PacketIdSet
+        ensures { λ r. ⌜ idKept r ≡ setIf (apidCheck apid) self (idWithApid self apid) ⌝ }
+    {
+        let result = apid.check();
+        match result {
+            CheckResult::Ok => {
+                let mut packet_id = self;
+                packet_id.apid = apid;
+                PacketIdSet { packet_id, result }
+            }
+            CheckResult::Err(_) => PacketIdSet {
+                packet_id: self,
+                result,
+            },
+        }
+    }
+
+    pub fn apid(self) -> Apid
+        ensures { λ r. ⌜ r ≡ self .apid ⌝ }
+    {
+        self.apid
+    }
+
+    // The thirteen bits.
+    pub fn raw(self) -> u16
+        ensures { λ r. ⌜ r ≡ idRaw self ⌝ }
+    {
+        let packet_type = self.packet_type;
+        let t = packet_type.raw_value() as u16;
+        let f = self.sec_header_flag as u16;
+        t * 4096 + f * 2048 + self.apid.0 % 2048
+    }
+
+    // The packet ID of the last thirteen bits of a word.
+    pub fn from(raw: u16) -> PacketId
+        ensures { λ r. ⌜ r ≡ idOf raw ⌝ }
+    {
+        PacketId::new(
+            packet_type_in_raw_packet_id(raw),
+            raw / 2048 % 2 == 1,
+            Apid(raw % 2048),
+        )
+    }
+}
+
+// ---- the packet sequence control: the third and the fourth octet
+
+pub struct PacketSequenceControl {
+    pub seq_flags: SequenceFlags,
+    pub seq_count: SeqCount,
+}
+
+impl PacketSequenceControl {
+    pub fn new(seq_flags: SequenceFlags, seq_count: SeqCount) -> PacketSequenceControl
+        ensures { λ r. ⌜ r ≡ pscFrom «seq_flags» «seq_count» ⌝ }
+    {
+        PacketSequenceControl {
+            seq_flags,
+            seq_count,
+        }
+    }
+
+    pub fn raw(self) -> u16
+        ensures { λ r. ⌜ r ≡ pscRaw self ⌝ }
+    {
+        let seq_flags = self.seq_flags;
+        let f = seq_flags.raw_value() as u16;
+        f * 16384 + self.seq_count.0 % 16384
+    }
+
+    pub fn from(raw: u16) -> PacketSequenceControl
+        ensures { λ r. ⌜ r ≡ pscOf raw ⌝ }
+    {
+        PacketSequenceControl::new(
+            SequenceFlags::new_with_raw_value((raw / 16384) as u8),
+            SeqCount(raw % 16384),
+        )
+    }
+}
+
+// ---- the primary header
+
+pub struct SpacePacketHeader {
+    // The packet version number, 3 bits.
+    pub version: u8,
+    pub packet_id: PacketId,
+    pub psc: PacketSequenceControl,
+    // The octets after the primary header, less one.
+    pub data_len: u16,
+}
+
+pub type SpHeader = SpacePacketHeader;
+
+pub enum SpHeaderResult {
+    Ok(SpacePacketHeader),
+    Err(PusError),
+}
+
+// What a setter hands back: the new header, or the old one with the refusal.
+pub struct SpHeaderSet {
+    pub header: SpacePacketHeader,
+    pub result: CheckResult,
+}
+
+fn octet(x: u8) -> u16
+    ensures { λ r. ⌜ r ≡ x ⌝ }
+{
+    x as u16
+}
+
+// The sixteen bits in the octets at `at` and after it; an octet past the end counts as 0.
+pub fn word_at(s: &[u8], at: usize) -> u16
+    ensures { λ r. ⌜ r ≡ word (now (s .entry)) at ⌝ }
+{
+    if s.len() <= at {
+        return 0;
+    }
+    if s.len() - at < 2 {
+        return octet(s[at]) * 256;
+    }
+    octet(s[at]) * 256 + octet(s[at + 1])
+}
+
+impl SpacePacketHeader {
+    pub const LENGTH: usize = CCSDS_HEADER_LEN;
+
+    // Unsegmented, with every other field 0.
+    pub fn default() -> SpacePacketHeader
+        ensures { λ r. ⌜ r ≡ headerOf (idFrom Tm false (record { 0 = 0 })) (pscFrom Unsegmented (record { 0 = 0 })) 0 0 ⌝ }
+    {
+        SpacePacketHeader::new_from_apid(Apid(0))
+    }
+
+    pub fn new(packet_id: PacketId, psc: PacketSequenceControl, data_len: u16) -> SpacePacketHeader
+        ensures { λ r. ⌜ r ≡ headerOf «packet_id» psc «data_len» 0 ⌝ }
+    {
+        SpacePacketHeader {
+            version: 0,
+            packet_id,
+            psc,
+            data_len,
+        }
+    }
+
+    // Unsegmented, with count 0 and length 0.
+    pub fn new_from_apid(apid: Apid) -> SpacePacketHeader
+        ensures { λ r. ⌜ r ≡ headerOf (idFrom Tm false apid) (pscFrom Unsegmented (record { 0 = 0 })) 0 0 ⌝ }
+    {
+        SpacePacketHeader::new_for_unseg_tm(apid, SeqCount(0), 0)
+    }
+
+    pub fn new_from_fields(
+        ptype: PacketType,
+        sec_header: bool,
+        apid: Apid,
+        seq_flags: SequenceFlags,
+        seq_count: SeqCount,
+        data_len: u16,
+    ) -> SpacePacketHeader
+        ensures { λ r. ⌜ r ≡ headerOf (idFrom ptype «sec_header» apid) (pscFrom «seq_flags» «seq_count») «data_len» 0 ⌝ }
+    {
+        SpacePacketHeader::new(
+            PacketId::new(ptype, sec_header, apid),
+            PacketSequenceControl::new(seq_flags, seq_count),
+            data_len,
+        )
+    }
+
+    pub fn new_for_tm(
+        apid: Apid,
+        seq_flags: SequenceFlags,
+        seq_count: SeqCount,
+        data_len: u16,
+    ) -> SpacePacketHeader
+        ensures { λ r. ⌜ r ≡ headerOf (idFrom Tm false apid) (pscFrom «seq_flags» «seq_count») «data_len» 0 ⌝ }
+    {
+        SpacePacketHeader::new_from_fields(
+            PacketType::Tm,
+            false,
+            apid,
+            seq_flags,
+            seq_count,
+            data_len,
+        )
+    }
+
+    pub fn new_for_tc(
+        apid: Apid,
+        seq_flags: SequenceFlags,
+        seq_count: SeqCount,
+        data_len: u16,
+    ) -> SpacePacketHeader
+        ensures { λ r. ⌜ r ≡ headerOf (idFrom Tc false apid) (pscFrom «seq_flags» «seq_count») «data_len» 0 ⌝ }
+    {
+        SpacePacketHeader::new_from_fields(
+            PacketType::Tc,
+            false,
+            apid,
+            seq_flags,
+            seq_count,
+            data_len,
+        )
+    }
+
+    pub fn new_for_unseg_tc(apid: Apid, seq_count: SeqCount, data_len: u16) -> SpacePacketHeader
+        ensures { λ r. ⌜ r ≡ headerOf (idFrom Tc false apid) (pscFrom Unsegmented «seq_count») «data_len» 0 ⌝ }
+    {
+        SpacePacketHeader::new_for_tc(apid, SequenceFlags::Unsegmented, seq_count, data_len)
+    }
+
+    pub fn new_for_unseg_tm(apid: Apid, seq_count: SeqCount, data_len: u16) -> SpacePacketHeader
+        ensures { λ r. ⌜ r ≡ headerOf (idFrom Tm false apid) (pscFrom Unsegmented «seq_count») «data_len» 0 ⌝ }
+    {
+        SpacePacketHeader::new_for_tm(apid, SequenceFlags::Unsegmented, seq_count, data_len)
+    }
+
+    // 7 where the version number is over its width.
+    pub fn new_from_composite_fields(
+        packet_id: PacketId,
+        psc: PacketSequenceControl,
+        data_len: u16,
+        version: u8,
+    ) -> SpHeaderResult
+        ensures { λ r. ⌜ spHeaderAnswer r ≡ (inRange 1 7 version then λ _. gives (headerOf «packet_id» psc «data_len» version)) ⌝ }
+    {
+        let c = in_range(1, 7, version as u16);
+        match c {
+            CheckResult::Err(e) => SpHeaderResult::Err(e),
+            CheckResult::Ok => SpHeaderResult::Ok(SpacePacketHeader {
+                version,
+                packet_id,
+                psc,
+                data_len,
+            }),
+        }
+    }
+
+    // ---- setters; the first two answer 7 where what is handed in is over its width
+
+    pub fn set_apid(self, apid: Apid) -> SpHeaderSet
+        ensures { λ r. ⌜ headerKept r ≡ setIf (apidCheck apid) self (withId self (idWithApid (self .«packet_id») apid)) ⌝ }
+    {
+        let id = self.packet_id;
+        let set = id.set_apid(apid);
+        let packet_id = set.packet_id;
+        let result = set.result;
+        SpHeaderSet {
+            header: self.with_packet_id(packet_id),
+            result,
+        }
+    }
+
+    pub fn set_seq_count(self, seq_count: SeqCount) -> SpHeaderSet
+        ensures { λ r. ⌜ headerKept r ≡ setIf (countCheck «seq_count») self (withPsc self (pscFrom (self .psc .«seq_flags») «seq_count»)) ⌝ }
+    {
+        let result = seq_count.check();
+        match result {
+            CheckResult::Err(_) => SpHeaderSet {
+                header: self,
+                result,
+            },
+            CheckResult::Ok => SpHeaderSet {
+                header: self.with_psc(PacketSequenceControl::new(self.sequence_flags(), seq_count)),
+                result,
+            },
+        }
+    }
+
+    fn with_psc(self, psc: PacketSequenceControl) -> SpacePacketHeader
+        ensures { λ r. ⌜ r ≡ withPsc self psc ⌝ }
+    {
+        let mut header = self;
+        header.psc = psc;
+        header
+    }
+
+    fn with_packet_id(self, packet_id: PacketId) -> SpacePacketHeader
+        ensures { λ r. ⌜ r ≡ withId self «packet_id» ⌝ }
+    {
+        let mut header = self;
+        header.packet_id = packet_id;
+        header
+    }
+
+    pub fn set_seq_flags(self, seq_flags: SequenceFlags) -> SpacePacketHeader
+        ensures { λ r. ⌜ r ≡ withPsc self (pscFrom «seq_flags» (self .psc .«seq_count»)) ⌝ }
+    {
+        self.with_psc(PacketSequenceControl::new(seq_flags, self.seq_count()))
+    }
+
+    pub fn set_sec_header_flag(self) -> SpacePacketHeader
+        ensures { λ r. ⌜ r ≡ withId self (idFrom (self .«packet_id» .«packet_type») true (self .«packet_id» .apid)) ⌝ }
+    {
+        let mut packet_id = self.packet_id;
+        packet_id.sec_header_flag = true;
+        self.with_packet_id(packet_id)
+    }
+
+    pub fn clear_sec_header_flag(self) -> SpacePacketHeader
+        ensures { λ r. ⌜ r ≡ withId self (idFrom (self .«packet_id» .«packet_type») false (self .«packet_id» .apid)) ⌝ }
+    {
+        let mut packet_id = self.packet_id;
+        packet_id.sec_header_flag = false;
+        self.with_packet_id(packet_id)
+    }
+
+    pub fn set_packet_type(self, packet_type: PacketType) -> SpacePacketHeader
+        ensures { λ r. ⌜ r ≡ withId self (idFrom «packet_type» (self .«packet_id» .«sec_header_flag») (self .«packet_id» .apid)) ⌝ }
+    {
+        self.with_packet_id(PacketId::new(packet_type, self.sec_header_flag(), self.apid()))
+    }
+
+    // ---- reading
+
+    pub fn ccsds_version(self) -> u8
+        ensures { λ r. ⌜ r ≡ self .version ⌝ }
+    {
+        self.version
+    }
+
+    pub fn packet_id(self) -> PacketId
+        ensures { λ r. ⌜ r ≡ self .«packet_id» ⌝ }
+    {
+        self.packet_id
+    }
+
+    pub fn psc(self) -> PacketSequenceControl
+        ensures { λ r. ⌜ r ≡ self .psc ⌝ }
+    {
+        self.psc
+    }
+
+    pub fn data_len(self) -> u16
+        ensures { λ r. ⌜ r ≡ self .«data_len» ⌝ }
+    {
+        self.data_len
+    }
+
+    // The total that the length field states.
+    pub fn packet_len(self) -> usize
+        ensures { λ r. ⌜ r ≡ totalOf self ⌝ }
+    {
+        self.data_len as usize + CCSDS_HEADER_LEN + 1
+    }
+
+    pub fn packet_id_raw(self) -> u16
+        ensures { λ r. ⌜ r ≡ idRaw (self .«packet_id») ⌝ }
+    {
+        let packet_id = self.packet_id;
+        packet_id.raw()
+    }
+
+    pub fn psc_raw(self) -> u16
+        ensures { λ r. ⌜ r ≡ pscRaw (self .psc) ⌝ }
+    {
+        let psc = self.psc;
+        psc.raw()
+    }
+
+    pub fn packet_type(self) -> PacketType
+        ensures { λ r. ⌜ r ≡ self .«packet_id» .«packet_type» ⌝ }
+    {
+        let packet_id = self.packet_id;
+        packet_id.packet_type
+    }
+
+    pub fn is_tm(self) -> bool
+        ensures { λ r. ⌜ r ≡ eqb (typeNumber (self .«packet_id» .«packet_type»)) 0 ⌝ }
+    {
+        let packet_type = self.packet_type();
+        packet_type.raw_value() == 0
+    }
+
+    pub fn is_tc(self) -> bool
+        ensures { λ r. ⌜ r ≡ eqb (typeNumber (self .«packet_id» .«packet_type»)) 1 ⌝ }
+    {
+        let packet_type = self.packet_type();
+        packet_type.raw_value() == 1
+    }
+
+    pub fn sec_header_flag(self) -> bool
+        ensures { λ r. ⌜ r ≡ self .«packet_id» .«sec_header_flag» ⌝ }
+    {
+        self.packet_id.sec_header_flag
+    }
+
+    pub fn apid(self) -> Apid
+        ensures { λ r. ⌜ r ≡ self .«packet_id» .apid ⌝ }
+    {
+        self.packet_id.apid
+    }
+
+    pub fn seq_count(self) -> SeqCount
+        ensures { λ r. ⌜ r ≡ self .psc .«seq_count» ⌝ }
+    {
+        self.psc.seq_count
+    }
+
+    pub fn sequence_flags(self) -> SequenceFlags
+        ensures { λ r. ⌜ r ≡ self .psc .«seq_flags» ⌝ }
+    {
+        let psc = self.psc;
+        psc.seq_flags
+    }
+
+    // Whether every field is the same.
+    pub fn eq(self, other: SpacePacketHeader) -> bool
+        ensures { λ r. ⌜ r ≡ sameHeader self other ⌝ }
+    {
+        let t = self.packet_type();
+        let u = other.packet_type();
+        let f = self.sequence_flags();
+        let g = other.sequence_flags();
+        (self.version == other.version)
+            & (t.raw_value() == u.raw_value())
+            & (self.packet_id.sec_header_flag == other.packet_id.sec_header_flag)
+            & (self.packet_id.apid.0 == other.packet_id.apid.0)
+            & (f.raw_value() == g.raw_value())
+            & (self.psc.seq_count.0 == other.psc.seq_count.0)
+            & (self.data_len == other.data_len)
+    }
+
+    // ---- octets
+
+    // The header that octets begin with; 2 where there are fewer than six.
+    pub fn from_be_bytes(buf: &[u8]) -> SpHeaderResult
+        ensures { λ r. ⌜ spHeaderAnswer r ≡ headerRead (now (buf .entry)) ⌝ }
+    {
+        if buf.len() < CCSDS_HEADER_LEN {
+            return SpHeaderResult::Err(PusError::ByteConversion(ByteConversionError::FromSliceTooSmall {
+                found: buf.len(),
+                expected: CCSDS_HEADER_LEN,
+            }));
+        }
+        let w = word_at(buf, 0);
+        SpHeaderResult::Ok(SpacePacketHeader {
+            version: (w / 8192) as u8,
+            packet_id: PacketId::from(w),
+            psc: PacketSequenceControl::from(word_at(buf, 2)),
+            data_len: word_at(buf, 4),
+        })
+    }
+
+    // What stands after the header that octets begin with; empty where from_be_bytes is refused.
+    pub fn rest_of_be_bytes(buf: &[u8]) -> &[u8]
+        ensures { λ r. ⌜ now r ≡ drop 6 (now (buf .entry)) ⌝ }
+    {
+        if buf.len() < CCSDS_HEADER_LEN {
+            return &buf[..0];
+        }
+        &buf[CCSDS_HEADER_LEN..]
+    }
+
+    // The first field over its width, as 7.
+    pub fn check(self) -> CheckResult
+        ensures { λ r. ⌜ checkAnswer r ≡ headerCheck self ⌝ }
+    {
+        let version = in_range(1, 7, self.version as u16);
+        let CheckResult::Ok = version else {
+            return version;
+        };
+        let apid = self.packet_id.apid;
+        let apid_result = apid.check();
+        let CheckResult::Ok = apid_result else {
+            return apid_result;
+        };
+        let count = self.psc.seq_count;
+        count.check()
+    }
+
+    // Writes the six octets; 7, then 1.
+    pub fn write_to_slice(self, buf: &mut [u8]) -> SizeResult
+        ensures { λ r. ⌜ Wrote (headerWrite self (length (now (buf .entry)))) (headerOctets self) (now (buf .entry)) r (now (buf .exit)) ⌝ }
+    {
+        let c = self.check();
+        match c {
+            CheckResult::Err(e) => SizeResult::Err(e),
+            CheckResult::Ok => {
+                if buf.len() < CCSDS_HEADER_LEN {
+                    return SizeResult::Err(PusError::ByteConversion(ByteConversionError::ToSliceTooSmall {
+                        found: buf.len(),
+                        expected: CCSDS_HEADER_LEN,
+                    }));
+                }
+                self.put(buf);
+                SizeResult::Ok(CCSDS_HEADER_LEN)
+            }
+        }
+    }
+
+    fn put(self, buf: &mut [u8])
+        requires { ⌜ (InRange self) × (6 ≤ length (now buf)) ⌝ }
+        ensures { λ _. ⌜ now (buf .exit) ≡ headerOctets self ++ drop 6 (now (buf .entry)) ⌝ }
+    {
+        let w0 = self.version as u16 * 8192 + self.packet_id_raw();
+        let w1 = self.psc_raw();
+        let w2 = self.data_len;
+        buf[0] = (w0 / 256) as u8;
+        buf[1] = (w0 % 256) as u8;
+        buf[2] = (w1 / 256) as u8;
+        buf[3] = (w1 % 256) as u8;
+        buf[4] = (w2 / 256) as u8;
+        buf[5] = (w2 % 256) as u8;
+    }
+}
