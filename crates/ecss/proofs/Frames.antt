@@ -1,0 +1,106 @@
+-- What it says that a length check or a write gives a total, and when it does.
+use Prim.Native.Nat.{ℕ, _+_, _-_, _≤_}
+use mathlib.Core.Path.{_≡_, refl, sym, ap, _∙_}
+use mathlib.Core.Bool.{Bool, true, false, not}
+use mathlib.Core.List.{List}
+use native.Mathlib.Omega.{arith}
+use lib.ListN.{length, take}
+use lib.Dec.{lit≤}
+use borrow.Author.Tests.{ltb-false, le-ltb, eq-eqb, eqb-true, not-false}
+use Rattle.space_packet.specs.Answer.{gives}
+use Rattle.space_packet.proofs.Answers.{gives-inj, refuse-no, refuse-gives, then-gives, gives-then}
+use Rattle.crc.specs.Crc.{crcOf}
+use Rattle.ecss.specs.Frame.{trailer, statedOf, storedOf, roomFor, frameOf, verified, checkedOf}
+use Rattle.ecss.specs.Write.{totalFor, lengthOf, lengthField, inBuffer, writeIn}
+
+-- ---- reading
+
+-- the octets begin with a frame of n octets
+pub record FrameIs (start : ℕ) (s : List ℕ) (b : Bool) (n : ℕ) : Type 0 where
+  pub is : n ≡ statedOf s
+  pub room : start + trailer b ≤ n
+  pub fits : n ≤ length s
+
+room-total : (start : ℕ) (b : Bool) (m n : ℕ) → start ≤ m → roomFor start b m ≡ gives n → (n ≡ m) × (start + trailer b ≤ m)
+room-total start true m n h p = let q = refuse-gives _ _ _ n p in (sym (gives-inj m n (q .1)), ltb-false m (start + 2) (q .0))
+room-total start false m n h p = (sym (gives-inj m n p), omega arith)
+
+total-room : (start : ℕ) (b : Bool) (n : ℕ) → start + trailer b ≤ n → roomFor start b n ≡ gives n
+total-room start true n h = refuse-no _ _ _ (le-ltb n (start + 2) h)
+total-room start false n h = refl
+
+pub frame-total : (start : ℕ) (s : List ℕ) (b : Bool) (n : ℕ) → frameOf start s b ≡ gives n → FrameIs start s b n
+unfolding frameOf
+frame-total start s b n p =
+    let p1 = refuse-gives _ _ _ n p in
+    let p2 = refuse-gives _ _ _ n (p1 .1) in
+    let p3 = refuse-gives _ _ _ n (p2 .1) in
+    let q = room-total start b (statedOf s) n (ltb-false _ _ (p3 .0)) (p3 .1) in
+    let h : statedOf s ≤ length s = ltb-false _ _ (p2 .0) in
+    let e : n ≡ statedOf s = q .0 in
+    let l : start + trailer b ≤ statedOf s = q .1 in
+    record { is = e; room = omega arith; fits = omega arith }
+
+pub total-frame : (start : ℕ) (s : List ℕ) (b : Bool) (n : ℕ) → FrameIs start s b n → frameOf start s b ≡ gives n
+unfolding frameOf
+total-frame start s b n f =
+    let h : start + trailer b ≤ n = f .room in
+    let k : n ≤ length s = f .fits in
+    rw (sym (f .is))
+    (refuse-no _ _ _ (le-ltb (length s) start (omega arith)) ∙ refuse-no _ _ _ (le-ltb (length s) n k)
+    ∙ refuse-no _ _ _ (le-ltb n start (omega arith)) ∙ total-room start b n h)
+
+-- the checks with checksum: a frame that verifies
+pub checked-total : (start : ℕ) (s : List ℕ) (n : ℕ) → checkedOf start s ≡ gives n → FrameIs start s true n × (crcOf (take n s) ≡ 0)
+unfolding checkedOf
+checked-total start s n p =
+    let q = then-gives (frameOf start s true) _ n p in
+    let v = then-gives (verified (take (q .0) s) (storedOf s (q .0))) _ n (q .2) in
+    let e : q .0 ≡ n = gives-inj (q .0) n (v .2) in
+    let z = eqb-true _ 0 (not-false _ (refuse-gives _ _ _ _ (v .1) .0)) in
+    (frame-total start s true n (q .1 ∙ ap gives e), ap (λ (x : ℕ). crcOf (take x s)) (sym e) ∙ z)
+
+pub total-checked : (start : ℕ) (s : List ℕ) (n : ℕ) → FrameIs start s true n → crcOf (take n s) ≡ 0 → checkedOf start s ≡ gives n
+unfolding checkedOf
+total-checked start s n f z =
+    gives-then _ _ n (total-frame start s true n f) ∙ gives-then _ _ tt (refuse-no _ _ _ (ap not (eq-eqb _ 0 z)))
+
+-- ---- writing
+
+pub trailer-le : (b : Bool) → trailer b ≤ 2
+trailer-le true = lit≤ tt
+trailer-le false = lit≤ tt
+
+pub length-total : (start : ℕ) (b : Bool) (n t : ℕ) → lengthOf start b n ≡ gives t → t ≡ totalFor start b n
+unfolding lengthOf
+length-total start b n t p = sym (gives-inj _ t (refuse-gives _ _ _ t p .1))
+
+pub total-length : (start : ℕ) (b : Bool) (n t : ℕ) → t ≡ totalFor start b n → t ≤ 18446744073709551615 → lengthOf start b n ≡ gives t
+unfolding lengthOf
+total-length start b n t e h = rw (sym e) (refuse-no _ _ _ (le-ltb 18446744073709551615 t h))
+
+pub in-buffer-is : (m n t : ℕ) → inBuffer m n ≡ gives t → (t ≡ n) × (n ≤ m)
+in-buffer-is m n t p = let r = refuse-gives _ _ _ t p in (sym (gives-inj n t (r .1)), ltb-false m n (r .0))
+
+-- the length field of a total
+pub field-is : (start : ℕ) (b : Bool) (n t f : ℕ) → lengthOf start b n ≡ gives t → t ≤ 65542 → f ≡ t - 7 → lengthField start b n ≡ gives f
+unfolding lengthField
+field-is start b n t f e h k = gives-then _ _ t e ∙ gives-then _ _ t (refuse-no _ _ _ (le-ltb 65542 t h)) ∙ ap gives (sym k)
+
+-- the data has room in a buffer of m octets, and the packet is t octets
+pub record WriteIs (start : ℕ) (b : Bool) (n m t : ℕ) : Type 0 where
+  pub is : t ≡ totalFor start b n
+  pub fits : t ≤ m
+
+pub write-total : (start : ℕ) (b : Bool) (n m t : ℕ) → writeIn start b n m ≡ gives t → WriteIs start b n m t
+unfolding writeIn
+write-total start b n m t p =
+    let q = then-gives (lengthOf start b n) (inBuffer m) t p in
+    let r = in-buffer-is m (q .0) t (q .2) in
+    record { is = r .0 ∙ length-total start b n (q .0) (q .1); fits = omega (arith, r .0, r .1) }
+
+pub total-write : (start : ℕ) (b : Bool) (n m t : ℕ) → WriteIs start b n m t → m ≤ 18446744073709551615 → writeIn start b n m ≡ gives t
+unfolding writeIn
+total-write start b n m t w h =
+    let f : t ≤ m = w .fits in
+    gives-then _ _ t (total-length start b n t (w .is) (omega arith)) ∙ refuse-no _ _ _ (le-ltb m t f)

@@ -1,0 +1,7 @@
+pub mod Frames
+pub mod Parts
+pub mod Reserved
+pub mod Sealed
+pub mod Octets
+pub mod Rules
+pub mod Determined

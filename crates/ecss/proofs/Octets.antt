@@ -1,0 +1,53 @@
+-- Octets compared: they are the same exactly where the lists are equal.
+use Prim.Native.Nat.{ℕ, suc, _≤_, _<_}
+use mathlib.Core.Path.{_≡_, refl, sym, ap, ap₂, _∙_}
+use mathlib.Core.Logic.{_↔_}
+use mathlib.Core.Bool.{Bool, true, false, _&&_}
+use mathlib.Core.List.{List, [], _∷_}
+use native.Mathlib.Omega.{arith}
+use lib.ListN.{length, getD, drop, drop-of-length-le}
+use lib.Seq.{drop-cons}
+use lib.Dec.{eqb}
+use borrow.Author.Tests.{eq-eqb, ne-eqb, eqb-true}
+use Rattle.ecss.specs.Frame.{sameOctets}
+
+and-true : (a b : Bool) → a && b ≡ true → (a ≡ true) × (b ≡ true)
+and-true true b p = (refl, p)
+and-true false b p = absurd (let z : _≡_ {A = ℕ} 0 1 = cc in omega arith)
+
+same-equal : (s t : List ℕ) → sameOctets s t ≡ true → s ≡ t
+unfolding sameOctets
+same-equal [] [] p = refl
+same-equal [] (y ∷ t) p = absurd (let z : _≡_ {A = ℕ} 0 1 = cc in omega arith)
+same-equal (x ∷ s) [] p = absurd (let z : _≡_ {A = ℕ} 0 1 = cc in omega arith)
+same-equal (x ∷ s) (y ∷ t) p = let q = and-true (eqb x y) (sameOctets s t) p in ap₂ _∷_ (eqb-true x y (q .0)) (same-equal s t (q .1))
+
+same-refl : (s : List ℕ) → sameOctets s s ≡ true
+unfolding sameOctets
+same-refl [] = refl
+same-refl (x ∷ s) = ap₂ _&&_ (eq-eqb x x refl) (same-refl s)
+
+pub same-octets : (s t : List ℕ) → (sameOctets s t ≡ true) ↔ (s ≡ t)
+same-octets s t = (same-equal s t, λ e. ap (sameOctets s) (sym e) ∙ same-refl s)
+
+not-same : (b : Bool) → (b ≡ true → ⊥) → b ≡ false
+not-same true h = absurd (h refl)
+not-same false h = refl
+
+pub length-differs : (s t : List ℕ) → (length s ≡ length t → ⊥) → sameOctets s t ≡ false
+length-differs s t h = not-same (sameOctets s t) (λ p. h (ap length (same-equal s t p)))
+
+-- a turn of the comparison
+same-turn : (s t : List ℕ) (i : ℕ) → i < length s → i < length t → sameOctets (drop i s) (drop i t) ≡ eqb (getD s i 0) (getD t i 0) && sameOctets (drop (suc i) s) (drop (suc i) t)
+unfolding sameOctets
+same-turn s t i h k = ap₂ sameOctets (drop-cons s i 0 h) (drop-cons t i 0 k)
+
+pub same-step : (s t : List ℕ) (i : ℕ) → i < length s → i < length t → getD s i 0 ≡ getD t i 0 → sameOctets (drop i s) (drop i t) ≡ sameOctets (drop (suc i) s) (drop (suc i) t)
+same-step s t i h k e = same-turn s t i h k ∙ ap (λ (b : Bool). b && sameOctets (drop (suc i) s) (drop (suc i) t)) (eq-eqb _ _ e)
+
+pub same-stop : (s t : List ℕ) (i : ℕ) → i < length s → i < length t → (getD s i 0 ≡ getD t i 0 → ⊥) → sameOctets (drop i s) (drop i t) ≡ false
+same-stop s t i h k e = same-turn s t i h k ∙ ap (λ (b : Bool). b && sameOctets (drop (suc i) s) (drop (suc i) t)) (ne-eqb _ _ e)
+
+pub same-end : (s t : List ℕ) (i : ℕ) → length s ≤ i → length t ≤ i → sameOctets (drop i s) (drop i t) ≡ true
+unfolding sameOctets
+same-end s t i h k = ap₂ sameOctets (drop-of-length-le s h) (drop-of-length-le t k)

@@ -1,0 +1,64 @@
+use mathlib.Core.Path.{sym, ap, _∙_}
+use native.Mathlib.Omega.{arith}
+use Rattle.space_packet.specs.Answer.{sizeAnswer}
+use Rattle.ecss.proofs.Frames.{frame-total}
+use borrow.Author.Needs.{needs}
+use Rattle.ecss.proofs.frame.data_part.Statement.{statement}
+use Rattle.ecss.proofs.frame.data_part.Tie as tie
+use Rattle.ecss.proofs.frame.data_part.Reads as reads
+use Rattle.ecss.proofs.frame.data_part.Lts as lts
+use Rattle.ecss.proofs.frame.frame_of.Reads as frame-of-reads
+use Rattle.ecss.proofs.frame.trailer_len.Reads as trailer-len-reads
+
+frame-of-requires : tie.Need-frame-of-requires
+frame-of-requires c κs = search needs
+
+enum-told : tie.Need-enum-told
+enum-told c = search needs
+
+slice-aggregate-result : tie.Need-slice-aggregate-result
+slice-aggregate-result c = search needs
+
+enum-known-f : tie.Need-enum-known-f
+enum-known-f c = search needs
+
+add-start : tie.Need-add-start
+add-start c = search needs
+
+trailer-len-requires : tie.Need-trailer-len-requires
+trailer-len-requires c κs = search needs
+
+sub-end : tie.Need-sub-end
+sub-end c = let e = sym (c .before .before .before .before .frame-of .ensures) ∙ ap sizeAnswer (c .before .before .f .given .1) in let q = frame-total _ _ _ _ e in omega arith
+
+sub-result : tie.Need-sub-result
+sub-result c = let e = sym (c .before .before .before .before .frame-of .ensures) ∙ ap sizeAnswer (c .before .before .f .given .1) in let q = frame-total _ _ _ _ e in omega arith
+
+part-result-start : tie.Need-part-result-start
+part-result-start c = let e = sym (c .before .before .before .before .frame-of .ensures) ∙ ap sizeAnswer (c .before .before .f .given .1) in let q = frame-total _ _ _ _ e in omega arith
+
+part-result-end : tie.Need-part-result-end
+part-result-end c = let e = sym (c .before .before .before .before .frame-of .ensures) ∙ ap sizeAnswer (c .before .before .f .given .1) in let q = frame-total _ _ _ _ e in omega arith
+
+returns : tie.Need-returns
+returns c = let e = sym (c .before .before .before .frame-of .ensures) ∙ ap sizeAnswer (c .before .enum-told .given .1) in simp e
+
+returns-2 : tie.Need-returns-2
+returns-2 c = let e = sym (c .before .before .before .before .before .frame-of .ensures) ∙ ap sizeAnswer (c .before .before .before .f .given .1) in rw (c .before .trailer-len .ensures) (simp e)
+
+pub data-part-spec : {M : Type 1} → statement M
+data-part-spec =
+    tie.close
+    (tie.spec
+    frame-of-requires
+    enum-told
+    slice-aggregate-result
+    enum-known-f
+    add-start
+    trailer-len-requires
+    sub-end
+    sub-result
+    part-result-start
+    part-result-end
+    returns
+    returns-2)

@@ -1,0 +1,87 @@
+use mathlib.Core.Path.{sym, ap, _∙_}
+use borrow.Author.Tests.{lt-ltb, le-ltb}
+use Rattle.space_packet.proofs.Answers.{refuse-yes}
+use Rattle.space_packet.specs.Answer.{sizeAnswer, refuseIf}
+use Rattle.ecss.specs.Frame.{frameOf}
+use borrow.Author.Needs.{needs}
+use Rattle.ecss.proofs.frame.frame_of.Statement.{statement}
+use Rattle.ecss.proofs.frame.frame_of.Tie as tie
+use Rattle.ecss.proofs.frame.frame_of.Reads as reads
+use Rattle.ecss.proofs.frame.frame_of.Lts as lts
+use Rattle.ecss.proofs.frame.too_small.Reads as too-small-reads
+use Rattle.space_packet.proofs.word_at.Reads as word-at-reads
+
+add-start : tie.Need-add-start
+add-start c = search needs
+
+too-small-requires : tie.Need-too-small-requires
+too-small-requires c κs = search needs
+
+returns : tie.Need-returns
+unfolding frameOf
+returns c = ap sizeAnswer (c .too-small .ensures) ∙ sym (refuse-yes _ _ _ (lt-ltb _ _ (c .before .if1 .taken)))
+
+word-at-requires : tie.Need-word-at-requires
+word-at-requires c κs = search needs
+
+cast-total : tie.Need-cast-total
+cast-total c = search needs
+
+add-total : tie.Need-add-total
+add-total c = search needs
+
+too-small-requires-2 : tie.Need-too-small-requires-2
+too-small-requires-2 c κs = search needs
+
+returns-2 : tie.Need-returns-2
+unfolding frameOf refuseIf
+returns-2 c = let w = c .before .before .word-at .ensures in rw (c .too-small2 .ensures, w) (simp (le-ltb _ _ (c .before .before .before .if1 .left), lt-ltb _ _ (rw w at (c .before .if2 .taken))))
+
+too-small-requires-3 : tie.Need-too-small-requires-3
+too-small-requires-3 c κs = search needs
+
+returns-3 : tie.Need-returns-3
+unfolding frameOf refuseIf
+returns-3 c = let w = c .before .before .before .word-at .ensures in rw (c .too-small3 .ensures, w) (simp (le-ltb _ _ (c .before .before .before .before .if1 .left), le-ltb _ _ (rw w at (c .before .before .if2 .left)), lt-ltb _ _ (rw w at (c .before .if3 .taken))))
+
+add-if5 : tie.Need-add-if5
+add-if5 c = search needs
+
+sub-too-small : tie.Need-sub-too-small
+sub-too-small c = search needs
+
+too-small-requires-4 : tie.Need-too-small-requires-4
+too-small-requires-4 c κs = search needs
+
+returns-4 : tie.Need-returns-4
+unfolding frameOf refuseIf
+returns-4 c = let w = c .before .before .before .before .before .word-at .ensures in rw (c .too-small4 .ensures, w) (simp (le-ltb _ _ (c .before .before .before .before .before .before .if1 .left), le-ltb _ _ (rw w at (c .before .before .before .before .if2 .left)), le-ltb _ _ (rw w at (c .before .before .before .if3 .left)), c .before .before .if4 .taken, lt-ltb _ _ (rw w at (c .before .if5 .taken))))
+
+returns-5 : tie.Need-returns-5
+unfolding frameOf refuseIf
+returns-5 c = let w = c .before .before .before .before .word-at .ensures in rw w (simp (le-ltb _ _ (c .before .before .before .before .before .if1 .left), le-ltb _ _ (rw w at (c .before .before .before .if2 .left)), le-ltb _ _ (rw w at (c .before .before .if3 .left)), c .before .if4 .taken, le-ltb _ _ (rw w at (c .if5 .left))))
+
+returns-6 : tie.Need-returns-6
+unfolding frameOf refuseIf
+returns-6 c = let w = c .before .before .before .word-at .ensures in rw w (simp (le-ltb _ _ (c .before .before .before .before .if1 .left), le-ltb _ _ (rw w at (c .before .before .if2 .left)), le-ltb _ _ (rw w at (c .before .if3 .left)), c .if4 .left))
+
+pub frame-of-spec : {M : Type 1} → statement M
+frame-of-spec =
+    tie.close
+    (tie.spec
+    add-start
+    too-small-requires
+    returns
+    word-at-requires
+    cast-total
+    add-total
+    too-small-requires-2
+    returns-2
+    too-small-requires-3
+    returns-3
+    add-if5
+    sub-too-small
+    too-small-requires-4
+    returns-4
+    returns-5
+    returns-6)

@@ -1,0 +1,16 @@
+use mathlib.Core.Path.{sym}
+use borrow.Author.Tests.{lt-ltb, le-ltb}
+use Rattle.space_packet.proofs.Answers.{refuse-yes, refuse-no}
+use Rattle.ecss.proofs.frame.in_buffer.Statement.{statement}
+use Rattle.ecss.proofs.frame.in_buffer.Tie as tie
+use Rattle.ecss.proofs.frame.in_buffer.Reads as reads
+use Rattle.ecss.proofs.frame.in_buffer.Lts as lts
+
+returns : tie.Need-returns
+returns c = sym (refuse-yes _ _ _ (lt-ltb _ _ (c .if1 .taken)))
+
+returns-2 : tie.Need-returns-2
+returns-2 c = sym (refuse-no _ _ _ (le-ltb _ _ (c .if1 .left)))
+
+pub in-buffer-spec : {M : Type 1} → statement M
+in-buffer-spec = tie.close (tie.spec returns returns-2)

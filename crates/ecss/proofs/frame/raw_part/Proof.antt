@@ -1,0 +1,44 @@
+use mathlib.Core.Path.{sym, ap, _∙_}
+use native.Mathlib.Omega.{arith}
+use Rattle.space_packet.specs.Answer.{sizeAnswer}
+use Rattle.ecss.proofs.Frames.{frame-total}
+use borrow.Author.Needs.{needs}
+use Rattle.ecss.proofs.frame.raw_part.Statement.{statement}
+use Rattle.ecss.proofs.frame.raw_part.Tie as tie
+use Rattle.ecss.proofs.frame.raw_part.Reads as reads
+use Rattle.ecss.proofs.frame.raw_part.Lts as lts
+use Rattle.ecss.proofs.frame.frame_of.Reads as frame-of-reads
+use Rattle.ecss.proofs.frame.front.Reads as front-reads
+
+frame-of-requires : tie.Need-frame-of-requires
+frame-of-requires c κs = search needs
+
+enum-told : tie.Need-enum-told
+enum-told c = search needs
+
+slice-aggregate-result : tie.Need-slice-aggregate-result
+slice-aggregate-result c = search needs
+
+enum-known-f : tie.Need-enum-known-f
+enum-known-f c = search needs
+
+front-requires : tie.Need-front-requires
+front-requires c κs = let e = sym (c .before .before .before .frame-of .ensures) ∙ ap sizeAnswer (c .before .f .given .1) in let q = frame-total _ _ _ _ e in omega arith
+
+returns : tie.Need-returns
+returns c = let e = sym (c .before .before .before .frame-of .ensures) ∙ ap sizeAnswer (c .before .enum-told .given .1) in simp e
+
+returns-2 : tie.Need-returns-2
+returns-2 c = let e = sym (c .before .before .before .before .frame-of .ensures) ∙ ap sizeAnswer (c .before .before .f .given .1) in simp e (c .front .ensures)
+
+pub raw-part-spec : {M : Type 1} → statement M
+raw-part-spec =
+    tie.close
+    (tie.spec
+    frame-of-requires
+    enum-told
+    slice-aggregate-result
+    enum-known-f
+    front-requires
+    returns
+    returns-2)

@@ -1,0 +1,80 @@
+-- The frame of a packet, over `start`, the octet at which its data starts: 11 for a PUS-C telecommand.
+use Prim.Native.Nat.{ℕ, _+_, _-_, _<_}
+use mathlib.Core.Bool.{Bool, true, false, not, _&&_}
+use mathlib.Core.List.{List, [], _∷_, _++_}
+use lib.ListN.{length, getD, take, drop}
+use lib.Dec.{ltb, eqb}
+use Rattle.space_packet.specs.Bits.{be16, word}
+use Rattle.space_packet.specs.Answer.{Answer, Passed, no, gives, refuses, refuseIf, _then_}
+use Rattle.crc.specs.Crc.{crcOf}
+
+-- numbers that are octets
+abbrev pub Octets : List ℕ → Type 0
+Octets s = (i : ℕ) → getD s i 0 < 256
+
+-- ---- the packet error control, ECSS-E-ST-70-41C, 7.4.3.3 and 7.4.4.3: the last two octets, where there is one
+
+abbrev pub trailer : Bool → ℕ
+trailer true = 2
+trailer false = 0
+
+-- octets with their checksum behind them
+unfoldable pub sealed : List ℕ → List ℕ
+sealed l = l ++ be16 (crcOf l)
+
+-- a packet that has a checksum, or has none
+abbrev pub closed : Bool → List ℕ → List ℕ
+closed true l = sealed l
+closed false l = l
+
+-- annex B: octets verify where the checksum over all of them, the last two included, is 0
+abbrev pub verifies : List ℕ → Bool
+verifies s = eqb (crcOf s) 0
+
+-- or are refused with the number that is handed in
+abbrev pub verified : List ℕ → ℕ → Passed
+verified s stored = refuseIf (not (verifies s)) (no 4 (stored ∷ [])) (gives tt)
+
+-- ---- reading
+
+-- CCSDS 133.0-B, 4.1.3.5.3: the total that the length field states
+abbrev pub statedOf : List ℕ → ℕ
+statedOf s = word s 4 + 7
+
+-- with a checksum, the total has room for it behind the headers
+abbrev pub roomFor : ℕ → Bool → ℕ → Answer ℕ
+roomFor start true n = refuseIf (ltb n (start + 2)) (no 2 ((n - 2) ∷ start ∷ [])) (gives n)
+roomFor start false n = gives n
+
+-- the reader's order: fewer octets than the headers have; fewer than the stated total; a stated total below the
+-- headers; with a checksum, no room for it. The answer is the total.
+unfoldable pub frameOf : ℕ → List ℕ → Bool → Answer ℕ
+frameOf start s b =
+    refuseIf (ltb (length s) start) (no 2 (length s ∷ start ∷ []))
+    (refuseIf (ltb (length s) (statedOf s)) (no 2 (length s ∷ statedOf s ∷ []))
+    (refuseIf (ltb (statedOf s) start) (no 2 (statedOf s ∷ start ∷ [])) (roomFor start b (statedOf s))))
+
+-- the checksum that a packet of n octets stores
+abbrev pub storedOf : List ℕ → ℕ → ℕ
+storedOf s n = word s (n - 2)
+
+-- all reader checks with checksum: octets after the stated total count for nothing
+unfoldable pub checkedOf : ℕ → List ℕ → Answer ℕ
+checkedOf start s = frameOf start s true then λ n. verified (take n s) (storedOf s n) then λ _. gives n
+
+-- the packet that is handed out, and its data, without a copy; where it is refused, the empty part
+abbrev pub rawPart : Answer ℕ → List ℕ → List ℕ
+rawPart (refuses e) s = []
+rawPart (gives n) s = take n s
+
+abbrev pub dataPart : ℕ → Bool → Answer ℕ → List ℕ → List ℕ
+dataPart start b (refuses e) s = []
+dataPart start b (gives n) s = take (n - trailer b - start) (drop start s)
+
+-- ---- octets compared
+
+unfoldable pub sameOctets : List ℕ → List ℕ → Bool
+sameOctets [] [] = true
+sameOctets [] (y ∷ t) = false
+sameOctets (x ∷ s) [] = false
+sameOctets (x ∷ s) (y ∷ t) = eqb x y && sameOctets s t

@@ -1,0 +1,5 @@
+pub mod Version
+pub mod Frame
+pub mod Write
+pub mod Reserve
+pub mod Codec

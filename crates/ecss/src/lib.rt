@@ -1,0 +1,155 @@
+// What every PUS packet shares, after ECSS-E-ST-70-41C: its version, its message type, the verifying of its checksum, and
+// its frame.
+ghost use mathlib.Core.Path.{_≡_};
+ghost use Rattle.space_packet.specs.Answer.{checkAnswer};
+ghost use Rattle.crc.specs.Crc.{crcOf};
+ghost use Rattle.ecss.specs.Version.{versionNumber, versionAnswer, versionOf, messageType, defaultConfig};
+ghost use Rattle.ecss.specs.Frame.{verifies, verified};
+ghost use Rattle.ecss.specs.Codec.{commandRule};
+pub use space_packet::ByteConversionError;
+use space_packet::CheckResult;
+pub use space_packet::PusError;
+use space_packet::SpHeader;
+
+pub mod frame;
+pub mod reserve;
+
+// All PUS versions; only PUS C is written.
+pub enum PusVersion {
+    EsaPus,
+    PusA,
+    PusC,
+}
+
+pub enum PusVersionResult {
+    Ok(PusVersion),
+    Err(PusError),
+}
+
+impl PusVersion {
+    pub fn raw_value(self) -> u8
+        ensures { λ r. ⌜ r ≡ versionNumber self ⌝ }
+    {
+        match self {
+            PusVersion::EsaPus => 0,
+            PusVersion::PusA => 1,
+            PusVersion::PusC => 2,
+        }
+    }
+
+    // The version of a nibble; 3 for a nibble that names none.
+    pub fn try_from(value: u8) -> PusVersionResult
+        ensures { λ r. ⌜ versionAnswer r ≡ versionOf value ⌝ }
+    {
+        match value {
+            0 => PusVersionResult::Ok(PusVersion::EsaPus),
+            1 => PusVersionResult::Ok(PusVersion::PusA),
+            2 => PusVersionResult::Ok(PusVersion::PusC),
+            _ => PusVersionResult::Err(PusError::VersionNotSupported(value)),
+        }
+    }
+}
+
+pub struct MessageTypeId {
+    // The service type.
+    pub type_id: u8,
+    // The message subtype.
+    pub subtype_id: u8,
+}
+
+impl MessageTypeId {
+    pub fn new(type_id: u8, subtype_id: u8) -> MessageTypeId
+        ensures { λ r. ⌜ r ≡ messageType «type_id» «subtype_id» ⌝ }
+    {
+        MessageTypeId {
+            type_id,
+            subtype_id,
+        }
+    }
+}
+
+pub struct CreatorConfig {
+    // Whether construction sets the length field.
+    pub set_ccsds_len: bool,
+    // Whether a checksum ends the packet.
+    pub has_checksum: bool,
+}
+
+impl CreatorConfig {
+    pub fn default() -> CreatorConfig
+        ensures { λ r. ⌜ r ≡ defaultConfig ⌝ }
+    {
+        CreatorConfig {
+            set_ccsds_len: true,
+            has_checksum: true,
+        }
+    }
+}
+
+// The checksum, by the table or without one: the same number.
+pub(crate) fn checksum(data: &[u8], table: bool) -> u16
+    ensures { λ r. ⌜ r ≡ crcOf (now («data» .entry)) ⌝ }
+{
+    if table {
+        return crc::crc_ccitt_false(data);
+    }
+    crc::crc_ccitt_false_no_table(data)
+}
+
+pub(crate) fn verify(raw_data: &[u8], crc16: u16, table: bool) -> CheckResult
+    ensures { λ r. ⌜ checkAnswer r ≡ verified (now («raw_data» .entry)) crc16 ⌝ }
+{
+    if checksum(raw_data, table) == 0 {
+        return CheckResult::Ok;
+    }
+    CheckResult::Err(PusError::ChecksumFailure(crc16))
+}
+
+// 4, with the number handed in, where the octets do not verify.
+pub fn verify_crc16_ccitt_false_from_raw_to_pus_error(raw_data: &[u8], crc16: u16) -> CheckResult
+    ensures { λ r. ⌜ checkAnswer r ≡ verified (now («raw_data» .entry)) crc16 ⌝ }
+{
+    verify(raw_data, crc16, true)
+}
+
+pub fn verify_crc16_ccitt_false_from_raw_to_pus_error_no_table(
+    raw_data: &[u8],
+    crc16: u16,
+) -> CheckResult
+    ensures { λ r. ⌜ checkAnswer r ≡ verified (now («raw_data» .entry)) crc16 ⌝ }
+{
+    verify(raw_data, crc16, false)
+}
+
+pub fn verify_crc16_ccitt_false_from_raw(raw_data: &[u8]) -> bool
+    ensures { λ r. ⌜ r ≡ verifies (now («raw_data» .entry)) ⌝ }
+{
+    checksum(raw_data, true) == 0
+}
+
+pub fn verify_crc16_ccitt_false_from_raw_no_table(raw_data: &[u8]) -> bool
+    ensures { λ r. ⌜ r ≡ verifies (now («raw_data» .entry)) ⌝ }
+{
+    checksum(raw_data, false) == 0
+}
+
+// The strict checks of a telecommand of a PUS version, in their order; `octet` is the first of the secondary header.
+pub fn command_rule(version: u8, h: SpHeader, octet: u8) -> CheckResult
+    ensures { λ r. ⌜ checkAnswer r ≡ commandRule version h octet ⌝ }
+{
+    let number = h.version;
+    if number != 0 {
+        return CheckResult::Err(PusError::PacketVersion(number));
+    }
+    if h.is_tm() {
+        return CheckResult::Err(PusError::PacketTypeTm);
+    }
+    if !h.sec_header_flag() {
+        return CheckResult::Err(PusError::NoSecondaryHeader);
+    }
+    let nibble = octet / 16;
+    if nibble != version {
+        return CheckResult::Err(PusError::VersionNotSupported(nibble));
+    }
+    CheckResult::Ok
+}

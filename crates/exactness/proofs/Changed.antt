@@ -1,0 +1,68 @@
+-- A packet that was accepted is refused once bits of it are changed in a way that the checksum detects: for every codec.
+use Prim.Native.Nat.{ℕ, suc}
+use mathlib.Core.Path.{_≡_, refl, sym, ap, ap₂, _∙_, subst}
+use mathlib.Core.List.{List, [], _∷_}
+use native.Mathlib.Omega.{arith}
+use native.Mathlib.Nat.{suc-inj}
+use lib.ListN.{length, take}
+use lib.Seq.{length-take-le}
+use Rattle.space_packet.specs.Answer.{Answer, Numbers, gives, refuses}
+use Rattle.crc.specs.Crc.{_⊕_, bitsOf, crcOf}
+use Rattle.crc.specs.Error.{addOctets}
+use Rattle.crc.proofs.Xor.{⊕-assoc, ⊕-self, zero-⊕}
+use Rattle.crc.proofs.Linear.{bitsOf-⊕}
+use Rattle.detect.specs.Error.{Error}
+use Rattle.detect.specs.Error as E
+use Rattle.detect.proofs.Detect.{detects}
+use Rattle.ecss.specs.Frame.{statedOf}
+use Rattle.ecss.specs.Codec.{Codec, Packet, judge}
+use Rattle.exactness.specs.Changed.{Changed, Detected, differences, odd, burst}
+use Rattle.exactness.proofs.Exact.{accepted}
+
+-- ---- the error that leads from one row of octets to another is their sum
+
+add-length : (s t : List ℕ) → length s ≡ length t → length s ≡ length (addOctets s t)
+unfolding addOctets
+add-length [] [] h = refl
+add-length [] (y ∷ t) h = refl
+add-length (x ∷ s) [] h = absurd (omega arith)
+add-length (x ∷ s) (y ∷ t) h = ap suc (add-length s t (suc-inj h))
+
+add-back : (s t : List ℕ) → length s ≡ length t → addOctets s (addOctets s t) ≡ t
+unfolding addOctets
+add-back [] [] h = refl
+add-back [] (y ∷ t) h = absurd (omega arith)
+add-back (x ∷ s) [] h = absurd (omega arith)
+add-back (x ∷ s) (y ∷ t) h =
+    ap₂ _∷_ (sym (⊕-assoc x x y) ∙ ap (λ (z : ℕ). z ⊕ y) (⊕-self x) ∙ zero-⊕ y) (add-back s t (suc-inj h))
+
+error-of : (e : List ℕ) → Detected (bitsOf e) → Error e
+error-of e (odd h) = E.odd h
+error-of e (burst b) = E.burst b
+
+-- octets that differ so do not both verify
+pub not-both : (s t : List ℕ) → length s ≡ length t → Detected (differences s t) → crcOf s ≡ 0 → crcOf t ≡ 0 → ⊥
+not-both s t h d z z′ =
+    detects s (addOctets s t) (add-length s t h) z (error-of (addOctets s t) (subst Detected (sym (bitsOf-⊕ s t h)) d))
+    (ap crcOf (add-back s t h) ∙ z′)
+
+-- ---- the verdict
+
+not-accepted : {H : Type 0} (c : Codec H) (s s′ : List ℕ) (p q : Packet H) → judge c s ≡ gives p → Changed s s′ (statedOf s) → judge c s′ ≡ gives q → ⊥
+not-accepted c s s′ p q h d h′ =
+    let a = accepted c s p h in
+    let a′ = accepted c s′ q h′ in
+    let e : statedOf s ≡ statedOf s′ = omega arith in
+    let l = length-take-le (statedOf s) s (omega arith) in
+    let l′ = length-take-le (statedOf s) s′ (omega arith) in
+    not-both (take (statedOf s) s) (take (statedOf s) s′) (l ∙ sym l′) (d .bits) (a .verifies)
+    (ap (λ (n : ℕ). crcOf (take n s′)) e ∙ a′ .verifies)
+
+or-refused : {A : Type 0} (a : Answer A) → ((x : A) → a ≡ gives x → ⊥) → (n : Numbers) × (a ≡ refuses n)
+or-refused (refuses n) f = (n, refl)
+or-refused (gives x) f = absurd (f x refl)
+
+-- octets that agree with accepted ones in 4 and 5, and differ from them so inside their stated total, are refused,
+-- whatever follows the total, and also where they end before it
+pub refused : {H : Type 0} (c : Codec H) (s s′ : List ℕ) (p : Packet H) → judge c s ≡ gives p → Changed s s′ (statedOf s) → (n : Numbers) × (judge c s′ ≡ refuses n)
+refused c s s′ p h d = or-refused (judge c s′) (λ q. not-accepted c s s′ p q h d)

@@ -1,0 +1,4 @@
+pub mod Parts
+pub mod Exact
+pub mod Places
+pub mod Changed
