@@ -1,0 +1,92 @@
+-- Two results that meet a call's contract are equal, and so is what they leave in a buffer.
+use Prim.Native.Nat.{ℕ}
+use mathlib.Core.Path.{_≡_, refl, ap}
+use mathlib.Core.Bool.{Bool}
+use mathlib.Core.List.{List}
+use lib.ListN.{length}
+use Rattle.space_packet.specs.Answer.{Passed, Kept, setIf}
+use Rattle.space_packet.specs.declared.SpacePacketHeader.{SpacePacketHeader}
+use Rattle.space_packet.proofs.Answers.{by-inverse, resultOf, error-back}
+use Rattle.space_packet.proofs.Determined.{Determines, from-inj, check-inj, plain, Writes, writes}
+use Rattle.ecss.specs.declared.CreatorConfig.{CreatorConfig}
+use Rattle.tc_header.specs.declared.PusTcSecondaryHeader.{PusTcSecondaryHeader}
+use Rattle.ecss_tc.specs.Creator.{contentFor, octetsFor, newOf, creatorAnswer, creatorKept, updated, ownChecksum, crcAnswer, writeOf, plainOf}
+use Rattle.ecss_tc.specs.Reserved.{reserveOf, reservedAnswer, headFor, reservedLeft}
+use Rattle.ecss_tc.specs.Builder.{builderKept}
+use Rattle.ecss_tc.specs.declared.PusTcCreator.{PusTcCreator}
+use Rattle.ecss_tc.specs.declared.PusTcCreatorSet.{PusTcCreatorSet}
+use Rattle.ecss_tc.specs.declared.PusTcCreatorResult.{PusTcCreatorResult}
+use Rattle.ecss_tc.specs.declared.PusTcCreatorResult.the-variants as T
+use Rattle.ecss_tc.specs.declared.CrcResult.{CrcResult}
+use Rattle.ecss_tc.specs.declared.CrcResult.the-variants as C
+use Rattle.ecss_tc.specs.declared.ReservedResult.{ReservedResult}
+use Rattle.ecss_tc.specs.declared.ReservedResult.the-variants as R
+use Rattle.ecss_tc.specs.declared.PusTcBuilder.{PusTcBuilder}
+use Rattle.ecss_tc.specs.declared.PusTcBuilderSet.{PusTcBuilderSet}
+
+-- ---- each answer tells its result
+
+creator-back : (r : PusTcCreatorResult) → resultOf T.Ok T.Err (creatorAnswer r) ≡ r
+unfolding resultOf
+creator-back (T.Ok t) = refl
+creator-back (T.Err e) = ap T.Err (error-back e)
+
+crc-back : (r : CrcResult) → resultOf C.Ok C.Err (crcAnswer r) ≡ r
+unfolding resultOf
+crc-back (C.Ok n) = refl
+crc-back (C.Err e) = ap C.Err (error-back e)
+
+reserved-back : (r : ReservedResult) → resultOf R.Ok R.Err (reservedAnswer r) ≡ r
+unfolding resultOf
+reserved-back (R.Ok r) = refl
+reserved-back (R.Err e) = ap R.Err (error-back e)
+
+creator-kept-inj : (x y : PusTcCreatorSet) → creatorKept x ≡ creatorKept y → x ≡ y
+creator-kept-inj x y p =
+    let e : x .result ≡ y .result = check-inj _ _ (ap (λ (k : Kept PusTcCreator). k .passed) p) in
+    λ i. record { creator = p i .kept; result = e i }
+
+builder-kept-inj : (x y : PusTcBuilderSet) → builderKept x ≡ builderKept y → x ≡ y
+builder-kept-inj x y p =
+    let e : x .result ≡ y .result = check-inj _ _ (ap (λ (k : Kept PusTcBuilder). k .passed) p) in
+    λ i. record { builder = p i .kept; result = e i }
+
+-- ---- the calls
+
+-- A contract that is `r ≡ d` is determined by `plain`: builder, every reading call, eq, set_sp_header, set_sec_header,
+-- set_seq_flags, set_source_id; of the reserved writer len_written, and of the part that it hands out the octets, whose
+-- place in the buffer is two equations more; of the builder new, default, and each setter that refuses nothing.
+-- The theorems of ecss at start 11 determine len_written, and of the reserved writer app_data_len, app_data_bounds,
+-- fill_app_data and the three ways to finish.
+
+-- also new_simple, new_no_app_data and build
+pub new : (h : SpacePacketHeader) (x : PusTcSecondaryHeader) (n : ℕ) (config : CreatorConfig) → Determines creatorAnswer (newOf h x n config)
+new h x n config = from-inj creatorAnswer (by-inverse creatorAnswer (resultOf T.Ok T.Err) creator-back) _
+
+-- set_apid, set_seq_count and set_ack_flags
+pub set : (p : Passed) (old new : PusTcCreator) → Determines creatorKept (setIf p old new)
+set p old new = from-inj creatorKept creator-kept-inj _
+
+pub update-ccsds-data-len : (t : PusTcCreator) (n : ℕ) → Determines creatorKept (updated t n)
+update-ccsds-data-len t n = from-inj creatorKept creator-kept-inj _
+
+-- both, with the table and with none
+pub calc-own-crc16 : (t : PusTcCreator) (d : List ℕ) → Determines crcAnswer (ownChecksum t d)
+calc-own-crc16 t d = from-inj crcAnswer (by-inverse crcAnswer (resultOf C.Ok C.Err) crc-back) _
+
+-- write_to_slice, write_to_slice_crc_no_table and write_to_slice_checksum_no_table
+pub write-to-slice : (t : PusTcCreator) (d s : List ℕ) → Writes (writeOf t (length d) (length s)) (octetsFor t d) s
+write-to-slice t d s = writes _ _ _
+
+-- write_to_slice_no_crc and write_to_slice_no_checksum
+pub write-to-slice-no-crc : (t : PusTcCreator) (d s : List ℕ) → Writes (plainOf t (length d) (length s)) (contentFor t d) s
+write-to-slice-no-crc t d s = writes _ _ _
+
+-- the answer and the buffer
+pub reserve : (h : SpacePacketHeader) (x : PusTcSecondaryHeader) (n : ℕ) (b : Bool) (s : List ℕ) → Determines reservedAnswer (reserveOf h x n b (length s))
+    × Determines (λ (o : List ℕ). o) (reservedLeft (reserveOf h x n b (length s)) (headFor h x n b) s)
+reserve h x n b s = (from-inj reservedAnswer (by-inverse reservedAnswer (resultOf R.Ok R.Err) reserved-back) _, plain _)
+
+-- with_packet_id, with_packet_sequence_control, with_sequence_count, with_ack_flags and with_apid
+pub with-field : (p : Passed) (old new : PusTcBuilder) → Determines builderKept (setIf p old new)
+with-field p old new = from-inj builderKept builder-kept-inj _

@@ -1,0 +1,5 @@
+pub mod Made
+pub mod Written
+pub mod Agree
+pub mod Same
+pub mod Determined

@@ -1,0 +1,80 @@
+-- Construction and edits: what an answer of them says of its checks.
+use Prim.Native.Nat.{ℕ, _-_}
+use mathlib.Core.Path.{_≡_, sym, ap, _∙_}
+use mathlib.Core.Bool.{Bool, true, false, _&&_}
+use Rattle.space_packet.specs.Bits.{pick}
+use Rattle.space_packet.specs.Answer.{Numbers, Answer, Passed, Kept, gives, refuses, _then_, setIf}
+use Rattle.space_packet.specs.Header.{headerKept}
+use Rattle.space_packet.specs.declared.SpacePacketHeader.{SpacePacketHeader}
+use Rattle.space_packet.specs.declared.SpHeaderSet.{SpHeaderSet}
+use Rattle.space_packet.proofs.Answers.{gives-inj, refuses-inj, never, then-gives, gives-then, refuses-then, kept-new, kept-old, set-in}
+use Rattle.ecss.specs.Write.{totalFor, lengthOf, limited, lengthField}
+use Rattle.ecss.proofs.Frames.{length-total}
+use Rattle.tc_header.specs.declared.PusTcSecondaryHeader.{PusTcSecondaryHeader}
+use Rattle.ecss_tc.specs.Creator.{creatorOf, asCommand, creatorCheck, withLength, keptIn, withHeader, lengthSet, created, updated}
+use Rattle.ecss_tc.specs.declared.PusTcCreator.{PusTcCreator}
+
+-- what only turns a value is refused where that value is
+pub turned-refused : {A B : Type 0} (a : Answer A) (f : A → B) (e : Numbers) → (a then λ x. gives (f x)) ≡ refuses e → a ≡ refuses e
+unfolding _then_
+turned-refused (refuses d) f e p = ap refuses (refuses-inj d e p)
+turned-refused (gives x) f e p = absurd (never (f x) e (sym p))
+
+-- ---- the length
+
+pub field-total : (start : ℕ) (b : Bool) (n f : ℕ) → lengthField start b n ≡ gives f → f ≡ totalFor start b n - 7
+unfolding lengthField
+field-total start b n f p =
+    let t = then-gives (lengthOf start b n) _ f p in
+    let u = then-gives (limited n (t .0)) _ f (t .2) in
+    sym (gives-inj _ f (u .2)) ∙ ap (λ (x : ℕ). x - 7) (length-total start b n (t .0) (t .1))
+
+-- ---- construction
+
+pub made-refused : (t : PusTcCreator) (s : Bool) (n : ℕ) (e : Numbers) → creatorCheck t ≡ refuses e → created t s n ≡ refuses e
+unfolding created
+made-refused t s n e p = refuses-then _ _ _ p
+
+pub made-set : (t : PusTcCreator) (s : Bool) (n : ℕ) → creatorCheck t ≡ gives tt → s ≡ true → created t s n ≡ lengthSet t n
+unfolding created
+made-set t s n p q = gives-then _ _ tt p ∙ ap (λ (x : Bool). pick x (lengthSet t n) (gives t)) q
+
+pub made-plain : (t : PusTcCreator) (s : Bool) (n : ℕ) → creatorCheck t ≡ gives tt → s ≡ false → created t s n ≡ gives t
+unfolding created
+made-plain t s n p q = gives-then _ _ tt p ∙ ap (λ (x : Bool). pick x (lengthSet t n) (gives t)) q
+
+-- construction from the header that it sets
+pub made-by : (g h : SpacePacketHeader) (x : PusTcSecondaryHeader) (b s : Bool) (n : ℕ) → g ≡ asCommand h → created (creatorOf g x b) s n ≡ created (creatorOf (asCommand h) x b) s n
+made-by g h x b s n e = ap (λ (z : SpacePacketHeader). created (creatorOf z x b) s n) e
+
+-- ---- edits
+
+-- an edit of the header, in the record that holds it
+pub edit-in : {A : Type 0} (f : SpacePacketHeader → A) (s : SpHeaderSet) (p : Passed) (old new : SpacePacketHeader) → headerKept s ≡ setIf p old new → keptIn f s ≡ setIf p (f old) (f new)
+edit-in f s p old new k = ap (λ (v : Kept SpacePacketHeader). record { passed = v .passed; kept = f (v .kept) }) k ∙ set-in f p old new
+
+-- the length set afresh: refused by a field, refused by the total, and done
+pub kept-as-was : (t : PusTcCreator) (n : ℕ) (e : Numbers) → creatorCheck t ≡ refuses e → record { passed = refuses e; kept = t } ≡ updated t n
+unfolding updated
+kept-as-was t n e p = let w = refuses-then _ _ _ p in kept-old _ _ _ _ _ (sym w) w
+
+pub kept-too-long : (t : PusTcCreator) (n : ℕ) (e : Numbers) → creatorCheck t ≡ gives tt → lengthSet t n ≡ refuses e → record { passed = refuses e; kept = t } ≡ updated t n
+unfolding updated
+kept-too-long t n e p q = let w = gives-then _ _ tt p ∙ refuses-then _ _ _ (turned-refused _ _ e q) in kept-old _ _ _ _ _ (sym w) w
+
+pub length-updated : (t u : PusTcCreator) (n : ℕ) → creatorCheck t ≡ gives tt → lengthSet t n ≡ gives u → record { passed = gives tt; kept = u } ≡ updated t n
+unfolding updated
+length-updated t u n p q =
+    let f = then-gives _ _ u q in
+    let w = gives-then _ _ tt p ∙ gives-then _ _ (f .0) (f .1) in
+    let k = ap (λ (x : ℕ). withHeader t (withLength (t .«sp_header») x)) (field-total _ _ n (f .0) (f .1)) in
+    ap (λ (v : PusTcCreator). record { passed = gives tt; kept = v }) (sym (gives-inj _ u (f .2)) ∙ k)
+    ∙ kept-new _ _ _ _ (sym w) w
+
+-- ---- comparisons, one part after the other
+
+pub and-stop : (a b : Bool) → a ≡ false → a && b ≡ false
+and-stop a b p = ap (λ (x : Bool). x && b) p
+
+pub and-go : (a b : Bool) → a ≡ true → a && b ≡ b
+and-go a b p = ap (λ (x : Bool). x && b) p

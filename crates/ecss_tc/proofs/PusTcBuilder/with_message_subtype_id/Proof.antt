@@ -1,0 +1,20 @@
+use borrow.Author.Needs.{needs}
+use Rattle.ecss_tc.proofs.PusTcBuilder.with_message_subtype_id.Statement.{statement}
+use Rattle.ecss_tc.proofs.PusTcBuilder.with_message_subtype_id.Tie as tie
+
+service-type-id-requires : tie.Need-service-type-id-requires
+service-type-id-requires c κs = search needs
+
+new-requires : tie.Need-new-requires
+new-requires c κs = search needs
+
+with-message-type-id-requires : tie.Need-with-message-type-id-requires
+with-message-type-id-requires c κs = search needs
+
+returns : tie.Need-returns
+returns c = cc
+
+pub with-message-subtype-id-spec : {M : Type 1} → statement M
+with-message-subtype-id-spec =
+    tie.close
+    (tie.spec service-type-id-requires new-requires with-message-type-id-requires returns)

@@ -1,0 +1,23 @@
+use borrow.Author.Needs.{needs}
+use Rattle.ecss_tc.proofs.PusTcBuilder.with_packet_id.Statement.{statement}
+use Rattle.ecss_tc.proofs.PusTcBuilder.with_packet_id.Tie as tie
+
+new-for-tc-requires : tie.Need-new-for-tc-requires
+new-for-tc-requires c κs = search needs
+
+check-requires : tie.Need-check-requires
+check-requires c κs = search needs
+
+with-header-requires : tie.Need-with-header-requires
+with-header-requires c κs = search needs
+
+kept-if-requires : tie.Need-kept-if-requires
+kept-if-requires c κs = search needs
+
+returns : tie.Need-returns
+returns c = cc
+
+pub with-packet-id-spec : {M : Type 1} → statement M
+with-packet-id-spec =
+    tie.close
+    (tie.spec new-for-tc-requires check-requires with-header-requires kept-if-requires returns)

@@ -1,0 +1,15 @@
+use borrow.Author.Needs.{needs}
+use Rattle.ecss_tc.proofs.PusTcCreator.new_simple.Statement.{statement}
+use Rattle.ecss_tc.proofs.PusTcCreator.new_simple.Tie as tie
+
+new-requires : tie.Need-new-requires
+new-requires c κs = search needs
+
+new-requires-2 : tie.Need-new-requires-2
+new-requires-2 c κs = search needs
+
+returns : tie.Need-returns
+returns c = cc
+
+pub new-simple-spec : {M : Type 1} → statement M
+new-simple-spec = tie.close (tie.spec new-requires new-requires-2 returns)

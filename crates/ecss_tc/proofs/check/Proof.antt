@@ -1,0 +1,28 @@
+use Rattle.space_packet.proofs.Answers.{gives-then, refuses-then}
+use Rattle.space_packet.specs.Answer.{checkAnswer}
+use mathlib.Core.Path.{_∙_, ap, sym}
+use borrow.Author.Needs.{needs}
+use Rattle.ecss_tc.proofs.check.Statement.{statement}
+use Rattle.ecss_tc.proofs.check.Tie as tie
+
+check-requires : tie.Need-check-requires
+check-requires c κs = search needs
+
+enum-known-c : tie.Need-enum-known-c
+enum-known-c c = search needs
+
+enum-told : tie.Need-enum-told
+enum-told c = search needs
+
+check-requires-2 : tie.Need-check-requires-2
+check-requires-2 c κs = search needs
+
+returns : tie.Need-returns
+returns c = let e = sym (c .before .before .before .check .ensures) ∙ ap checkAnswer (c .before .c .given .1) in sym (refuses-then _ _ _ e)
+
+returns-2 : tie.Need-returns-2
+returns-2 c = let e = sym (c .before .before .before .before .check .ensures) ∙ ap checkAnswer (c .before .before .enum-told .given .1) in c .check2 .ensures ∙ sym (gives-then _ _ _ e)
+
+pub check-spec : {M : Type 1} → statement M
+check-spec =
+    tie.close (tie.spec check-requires enum-known-c enum-told check-requires-2 returns returns-2)

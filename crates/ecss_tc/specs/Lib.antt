@@ -1,0 +1,3 @@
+pub mod Creator
+pub mod Reserved
+pub mod Builder

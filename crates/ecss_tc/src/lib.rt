@@ -1,0 +1,853 @@
+// PUS-C telecommands written, after ECSS-E-ST-70-41C: the creator, the writer that fills its data in the buffer, and the
+// builder. A creator's and a builder's application data travel beside them.
+ghost use mathlib.Core.Path.{_≡_};
+ghost use mathlib.Core.Bool.{true};
+ghost use mathlib.Core.List.{[], _++_};
+ghost use Prim.Native.Nat.{_+_, _≤_};
+ghost use lib.ListN.{length, drop};
+ghost use Rattle.space_packet.specs.Answer.{gives, setIf, checkAnswer, sizeAnswer};
+ghost use Rattle.space_packet.specs.Fields.{apidCheck, countCheck, idWithApid};
+ghost use Rattle.space_packet.specs.Header.{withId, withPsc, pscFrom, idFrom};
+ghost use Rattle.space_packet.specs.Wrote.{Wrote};
+ghost use Rattle.space_packet.specs.declared.PacketType.the-variants.{Tc};
+ghost use Rattle.ecss.specs.Version.{messageType};
+ghost use Rattle.ecss.specs.Write.{lengthOf};
+ghost use Rattle.ecss.specs.Reserve.{dataLenOf, boundsOf, boundsAnswer, within, beginsAt, fillIn, filledBy, finishIn, finished, plainIn};
+ghost use Rattle.ecss.specs.declared.PusVersion.the-variants.{PusC};
+ghost use Rattle.tc_header.specs.Header.{ackCheck, ackOf, secFrom, versionCheck};
+ghost use Rattle.ecss_tc.specs.Creator.{creatorOf, contentFor, octetsFor, withLength, asCommand, creatorCheck, lengthSet, newOf, creatorAnswer, keptIn, creatorKept, withHeader, withSec, updated, ownChecksum, crcAnswer, writeOf, plainOf, sameCreator};
+ghost use Rattle.ecss_tc.specs.Reserved.{reserveOf, reservedAnswer, headFor, reservedLeft};
+ghost use Rattle.ecss_tc.specs.Builder.{builderOf, defaultBuilder, builderKept, builderWithHeader, builderWithSec};
+use ecss::CreatorConfig;
+use ecss::MessageTypeId;
+use ecss::PusError;
+use ecss::PusVersion;
+use ecss::frame;
+use ecss::frame::DataLenResult;
+use ecss::reserve::BoundsResult;
+use ecss::reserve::Reservation;
+use space_packet::Apid;
+use space_packet::CheckResult;
+use space_packet::PacketId;
+use space_packet::PacketSequenceControl;
+use space_packet::PacketType;
+use space_packet::SeqCount;
+use space_packet::SequenceFlags;
+use space_packet::SizeResult;
+use space_packet::SpHeader;
+use space_packet::SpHeaderSet;
+pub use tc_header::ACK_ALL;
+pub use tc_header::AckFlags;
+pub use tc_header::PUC_TC_SECONDARY_HEADER_LEN;
+pub use tc_header::PUS_TC_MIN_LEN_WITHOUT_APP_DATA;
+pub use tc_header::PusTcSecondaryHeader;
+
+// ---- the creator
+
+// A telecommand, but for its application data.
+pub struct PusTcCreator {
+    sp_header: SpHeader,
+    pub sec_header: PusTcSecondaryHeader,
+    has_checksum: bool,
+}
+
+pub enum PusTcCreatorResult {
+    Ok(PusTcCreator),
+    Err(PusError),
+}
+
+// What a setter hands back: the new creator, or the old one with the refusal.
+pub struct PusTcCreatorSet {
+    pub creator: PusTcCreator,
+    pub result: CheckResult,
+}
+
+pub enum CrcResult {
+    Ok(u16),
+    Err(PusError),
+}
+
+// A telecommand with a secondary header.
+fn as_command(h: SpHeader) -> SpHeader
+    ensures { λ r. ⌜ r ≡ asCommand h ⌝ }
+{
+    let tc = h.set_packet_type(PacketType::Tc);
+    tc.set_sec_header_flag()
+}
+
+fn with_length(h: SpHeader, data_len: u16) -> SpHeader
+    ensures { λ r. ⌜ r ≡ withLength h «data_len» ⌝ }
+{
+    let mut set = h;
+    set.data_len = data_len;
+    set
+}
+
+// The first field over its width, places 1 to 4.
+fn check(h: SpHeader, x: PusTcSecondaryHeader) -> CheckResult
+    ensures { λ r. ⌜ checkAnswer r ≡ creatorCheck (creatorOf h x true) ⌝ }
+{
+    let c = h.check();
+    match c {
+        CheckResult::Err(e) => CheckResult::Err(e),
+        CheckResult::Ok => {
+            let ack = x.ack_flags;
+            ack.check()
+        }
+    }
+}
+
+// Writes octets 0 to 10.
+fn put_head(h: SpHeader, x: PusTcSecondaryHeader, buf: &mut [u8])
+    requires { ⌜ (creatorCheck (creatorOf h x true) ≡ gives tt) × (versionCheck (x .version) ≡ gives tt) × (11 ≤ length (now buf)) ⌝ }
+    ensures { λ _. ⌜ now (buf .exit) ≡ contentFor (creatorOf h x true) [] ++ drop 11 (now (buf .entry)) ⌝ }
+{
+    h.write_to_slice(buf);
+    x.write_to_slice(&mut buf[6..]);
+}
+
+impl PusTcCreator {
+    // Sets the type and the secondary header flag, and where the configuration says so the length; 7, 6.
+    pub fn new(
+        sp_header: SpHeader,
+        sec_header: PusTcSecondaryHeader,
+        app_data: &[u8],
+        packet_config: CreatorConfig,
+    ) -> PusTcCreatorResult
+        ensures { λ r. ⌜ creatorAnswer r ≡ newOf «sp_header» «sec_header» (length (now («app_data» .entry))) «packet_config» ⌝ }
+    {
+        let header = as_command(sp_header);
+        let c = check(header, sec_header);
+        match c {
+            CheckResult::Err(e) => PusTcCreatorResult::Err(e),
+            CheckResult::Ok => {
+                let made = PusTcCreator {
+                    sp_header: header,
+                    sec_header,
+                    has_checksum: packet_config.has_checksum,
+                };
+                if packet_config.set_ccsds_len {
+                    return made.length_set(app_data.len());
+                }
+                PusTcCreatorResult::Ok(made)
+            }
+        }
+    }
+
+    // With the length field of that many octets of data.
+    fn length_set(self, app_data_len: usize) -> PusTcCreatorResult
+        ensures { λ r. ⌜ creatorAnswer r ≡ lengthSet self «app_data_len» ⌝ }
+    {
+        let field = frame::data_len_field(5, app_data_len, self.has_checksum);
+        match field {
+            DataLenResult::Err(e) => PusTcCreatorResult::Err(e),
+            DataLenResult::Ok(n) => {
+                let header = self.sp_header;
+                PusTcCreatorResult::Ok(self.set_sp_header(with_length(header, n)))
+            }
+        }
+    }
+
+    // All four acknowledgements, and source 0.
+    pub fn new_simple(
+        sph: SpHeader,
+        message_type_id: MessageTypeId,
+        app_data: &[u8],
+        packet_config: CreatorConfig,
+    ) -> PusTcCreatorResult
+        ensures { λ r. ⌜ creatorAnswer r ≡ newOf sph (secFrom «message_type_id» (ackOf 15) 0 PusC) (length (now («app_data» .entry))) «packet_config» ⌝ }
+    {
+        PusTcCreator::new(
+            sph,
+            PusTcSecondaryHeader::new(message_type_id, ACK_ALL, 0),
+            app_data,
+            packet_config,
+        )
+    }
+
+    pub fn new_no_app_data(
+        sp_header: SpHeader,
+        sec_header: PusTcSecondaryHeader,
+        packet_config: CreatorConfig,
+    ) -> PusTcCreatorResult
+        ensures { λ r. ⌜ creatorAnswer r ≡ newOf «sp_header» «sec_header» 0 «packet_config» ⌝ }
+    {
+        let none = [0u8; 0];
+        PusTcCreator::new(sp_header, sec_header, &none, packet_config)
+    }
+
+    pub fn builder() -> PusTcBuilder
+        ensures { λ r. ⌜ r ≡ defaultBuilder ⌝ }
+    {
+        PusTcBuilder::new()
+    }
+
+    // ---- reading
+
+    pub fn sp_header(self) -> SpHeader
+        ensures { λ r. ⌜ r ≡ self .«sp_header» ⌝ }
+    {
+        self.sp_header
+    }
+
+    pub fn sec_header(self) -> PusTcSecondaryHeader
+        ensures { λ r. ⌜ r ≡ self .«sec_header» ⌝ }
+    {
+        self.sec_header
+    }
+
+    pub fn has_checksum(self) -> bool
+        ensures { λ r. ⌜ r ≡ self .«has_checksum» ⌝ }
+    {
+        self.has_checksum
+    }
+
+    pub fn service_type_id(self) -> u8
+        ensures { λ r. ⌜ r ≡ self .«sec_header» .«message_type_id» .«type_id» ⌝ }
+    {
+        let x = self.sec_header;
+        x.service_type_id()
+    }
+
+    pub fn message_subtype_id(self) -> u8
+        ensures { λ r. ⌜ r ≡ self .«sec_header» .«message_type_id» .«subtype_id» ⌝ }
+    {
+        let x = self.sec_header;
+        x.message_subtype_id()
+    }
+
+    pub fn message_type_id(self) -> MessageTypeId
+        ensures { λ r. ⌜ r ≡ self .«sec_header» .«message_type_id» ⌝ }
+    {
+        let x = self.sec_header;
+        x.message_type_id
+    }
+
+    pub fn pus_version(self) -> PusVersion
+        ensures { λ r. ⌜ r ≡ self .«sec_header» .version ⌝ }
+    {
+        let x = self.sec_header;
+        x.version
+    }
+
+    pub fn ack_flags(self) -> AckFlags
+        ensures { λ r. ⌜ r ≡ self .«sec_header» .«ack_flags» ⌝ }
+    {
+        let x = self.sec_header;
+        x.ack_flags
+    }
+
+    pub fn source_id(self) -> u16
+        ensures { λ r. ⌜ r ≡ self .«sec_header» .«source_id» ⌝ }
+    {
+        let x = self.sec_header;
+        x.source_id
+    }
+
+    pub fn apid(self) -> Apid
+        ensures { λ r. ⌜ r ≡ self .«sp_header» .«packet_id» .apid ⌝ }
+    {
+        let h = self.sp_header;
+        h.apid()
+    }
+
+    pub fn ccsds_version(self) -> u8
+        ensures { λ r. ⌜ r ≡ self .«sp_header» .version ⌝ }
+    {
+        let h = self.sp_header;
+        h.version
+    }
+
+    pub fn packet_id(self) -> PacketId
+        ensures { λ r. ⌜ r ≡ self .«sp_header» .«packet_id» ⌝ }
+    {
+        let h = self.sp_header;
+        h.packet_id
+    }
+
+    pub fn psc(self) -> PacketSequenceControl
+        ensures { λ r. ⌜ r ≡ self .«sp_header» .psc ⌝ }
+    {
+        let h = self.sp_header;
+        h.psc
+    }
+
+    pub fn data_len(self) -> u16
+        ensures { λ r. ⌜ r ≡ self .«sp_header» .«data_len» ⌝ }
+    {
+        let h = self.sp_header;
+        h.data_len
+    }
+
+    // ---- edits, which are written as they stand; an APID, a count and flags over their width are refused with 7
+
+    // Replaces the primary header.
+    pub fn set_sp_header(self, sp_header: SpHeader) -> PusTcCreator
+        ensures { λ r. ⌜ r ≡ withHeader self «sp_header» ⌝ }
+    {
+        let sec_header = self.sec_header;
+        PusTcCreator {
+            sp_header,
+            sec_header,
+            has_checksum: self.has_checksum,
+        }
+    }
+
+    // Replaces the secondary header.
+    pub fn set_sec_header(self, sec_header: PusTcSecondaryHeader) -> PusTcCreator
+        ensures { λ r. ⌜ r ≡ withSec self «sec_header» ⌝ }
+    {
+        let sp_header = self.sp_header;
+        PusTcCreator {
+            sp_header,
+            sec_header,
+            has_checksum: self.has_checksum,
+        }
+    }
+
+    // The creator that was set, or where the check was refused this one.
+    fn kept_if(self, result: CheckResult, set: PusTcCreator) -> PusTcCreatorSet
+        ensures { λ r. ⌜ creatorKept r ≡ setIf (checkAnswer result) self set ⌝ }
+    {
+        match result {
+            CheckResult::Err(_) => PusTcCreatorSet {
+                creator: self,
+                result,
+            },
+            CheckResult::Ok => PusTcCreatorSet {
+                creator: set,
+                result,
+            },
+        }
+    }
+
+    // With what an edit of its primary header handed back.
+    fn edited(self, set: SpHeaderSet) -> PusTcCreatorSet
+        ensures { λ r. ⌜ creatorKept r ≡ keptIn (withHeader self) set ⌝ }
+    {
+        let header = set.header;
+        let result = set.result;
+        PusTcCreatorSet {
+            creator: self.set_sp_header(header),
+            result,
+        }
+    }
+
+    pub fn set_apid(self, apid: Apid) -> PusTcCreatorSet
+        ensures { λ r. ⌜ creatorKept r ≡ setIf (apidCheck apid) self (withHeader self (withId (self .«sp_header») (idWithApid (self .«sp_header» .«packet_id») apid))) ⌝ }
+    {
+        let h = self.sp_header;
+        self.edited(h.set_apid(apid))
+    }
+
+    pub fn set_seq_count(self, seq_count: SeqCount) -> PusTcCreatorSet
+        ensures { λ r. ⌜ creatorKept r ≡ setIf (countCheck «seq_count») self (withHeader self (withPsc (self .«sp_header») (pscFrom (self .«sp_header» .psc .«seq_flags») «seq_count»))) ⌝ }
+    {
+        let h = self.sp_header;
+        self.edited(h.set_seq_count(seq_count))
+    }
+
+    pub fn set_seq_flags(self, seq_flag: SequenceFlags) -> PusTcCreator
+        ensures { λ r. ⌜ r ≡ withHeader self (withPsc (self .«sp_header») (pscFrom «seq_flag» (self .«sp_header» .psc .«seq_count»))) ⌝ }
+    {
+        let h = self.sp_header;
+        self.set_sp_header(h.set_seq_flags(seq_flag))
+    }
+
+    pub fn set_ack_flags(self, ack_flags: AckFlags) -> PusTcCreatorSet
+        ensures { λ r. ⌜ creatorKept r ≡ setIf (ackCheck «ack_flags») self (withSec self (secFrom (self .«sec_header» .«message_type_id») «ack_flags» (self .«sec_header» .«source_id») (self .«sec_header» .version))) ⌝ }
+    {
+        let mut x = self.sec_header;
+        x.ack_flags = ack_flags;
+        self.kept_if(ack_flags.check(), self.set_sec_header(x))
+    }
+
+    pub fn set_source_id(self, source_id: u16) -> PusTcCreator
+        ensures { λ r. ⌜ r ≡ withSec self (secFrom (self .«sec_header» .«message_type_id») (self .«sec_header» .«ack_flags») «source_id» (self .«sec_header» .version)) ⌝ }
+    {
+        let mut x = self.sec_header;
+        x.source_id = source_id;
+        self.set_sec_header(x)
+    }
+
+    // Sets the length field afresh for this data; 7, 6.
+    pub fn update_ccsds_data_len(self, app_data: &[u8]) -> PusTcCreatorSet
+        ensures { λ r. ⌜ creatorKept r ≡ updated self (length (now («app_data» .entry))) ⌝ }
+    {
+        let h = self.sp_header;
+        let x = self.sec_header;
+        let c = check(h, x);
+        match c {
+            CheckResult::Err(e) => PusTcCreatorSet {
+                creator: self,
+                result: CheckResult::Err(e),
+            },
+            CheckResult::Ok => {
+                let set = self.length_set(app_data.len());
+                match set {
+                    PusTcCreatorResult::Err(e) => PusTcCreatorSet {
+                        creator: self,
+                        result: CheckResult::Err(e),
+                    },
+                    PusTcCreatorResult::Ok(creator) => PusTcCreatorSet {
+                        creator,
+                        result: CheckResult::Ok,
+                    },
+                }
+            }
+        }
+    }
+
+    // Whether the headers, the data and the choice of checksum are the same.
+    pub fn eq(self, app_data: &[u8], other: PusTcCreator, other_app_data: &[u8]) -> bool
+        ensures { λ r. ⌜ r ≡ sameCreator self (now («app_data» .entry)) other (now («other_app_data» .entry)) ⌝ }
+    {
+        let h = self.sp_header;
+        let x = self.sec_header;
+        if !h.eq(other.sp_header) {
+            return false;
+        }
+        if !x.eq(other.sec_header) {
+            return false;
+        }
+        if !frame::same_octets(app_data, other_app_data) {
+            return false;
+        }
+        self.has_checksum == other.has_checksum
+    }
+
+    // ---- octets
+
+    // The length of the packet, its checksum included; 6.
+    pub fn len_written(self, app_data: &[u8]) -> SizeResult
+        ensures { λ r. ⌜ sizeAnswer r ≡ lengthOf 11 (self .«has_checksum») (length (now («app_data» .entry))) ⌝ }
+    {
+        frame::total_of(5, app_data.len(), self.has_checksum)
+    }
+
+    // The checksum over the headers and the data; 7, 3.
+    pub fn calc_own_crc16(self, app_data: &[u8]) -> CrcResult
+        ensures { λ r. ⌜ crcAnswer r ≡ ownChecksum self (now («app_data» .entry)) ⌝ }
+    {
+        self.own_crc16(app_data, true)
+    }
+
+    pub fn calc_own_crc16_no_table(self, app_data: &[u8]) -> CrcResult
+        ensures { λ r. ⌜ crcAnswer r ≡ ownChecksum self (now («app_data» .entry)) ⌝ }
+    {
+        self.own_crc16(app_data, false)
+    }
+
+    fn own_crc16(self, app_data: &[u8], table: bool) -> CrcResult
+        ensures { λ r. ⌜ crcAnswer r ≡ ownChecksum self (now («app_data» .entry)) ⌝ }
+    {
+        let h = self.sp_header;
+        let x = self.sec_header;
+        let c = check(h, x);
+        match c {
+            CheckResult::Err(e) => CrcResult::Err(e),
+            CheckResult::Ok => {
+                let v = x.check_version();
+                match v {
+                    CheckResult::Err(e) => CrcResult::Err(e),
+                    CheckResult::Ok => {
+                        let mut head = [0u8; 11];
+                        put_head(h, x, &mut head);
+                        let d = crc::Digest::new();
+                        if table {
+                            return CrcResult::Ok(d.update(&head).update(app_data).finalize());
+                        }
+                        CrcResult::Ok(
+                            d.update_no_table(&head)
+                                .update_no_table(app_data)
+                                .finalize(),
+                        )
+                    }
+                }
+            }
+        }
+    }
+
+    // Writes the packet over the first octets of the buffer and answers how many; 7, 6, 1, 3.
+    pub fn write_to_slice(self, app_data: &[u8], buf: &mut [u8]) -> SizeResult
+        ensures { λ r. ⌜ Wrote (writeOf self (length (now («app_data» .entry))) (length (now (buf .entry)))) (octetsFor self (now («app_data» .entry))) (now (buf .entry)) r (now (buf .exit)) ⌝ }
+    {
+        self.write(app_data, buf, true)
+    }
+
+    pub fn write_to_slice_crc_no_table(self, app_data: &[u8], buf: &mut [u8]) -> SizeResult
+        ensures { λ r. ⌜ Wrote (writeOf self (length (now («app_data» .entry))) (length (now (buf .entry)))) (octetsFor self (now («app_data» .entry))) (now (buf .entry)) r (now (buf .exit)) ⌝ }
+    {
+        self.write(app_data, buf, false)
+    }
+
+    fn write(self, app_data: &[u8], buf: &mut [u8], table: bool) -> SizeResult
+        ensures { λ r. ⌜ Wrote (writeOf self (length (now («app_data» .entry))) (length (now (buf .entry)))) (octetsFor self (now («app_data» .entry))) (now (buf .entry)) r (now (buf .exit)) ⌝ }
+    {
+        let written = self.write_to_slice_no_crc(app_data, buf);
+        match written {
+            SizeResult::Err(e) => SizeResult::Err(e),
+            SizeResult::Ok(end) => {
+                if self.has_checksum {
+                    return frame::seal(5, app_data.len(), buf, table);
+                }
+                SizeResult::Ok(end)
+            }
+        }
+    }
+
+    // Leaves the two octets of an enabled checksum as they are, for which there still must be room.
+    pub fn write_to_slice_no_crc(self, app_data: &[u8], buf: &mut [u8]) -> SizeResult
+        ensures { λ r. ⌜ Wrote (plainOf self (length (now («app_data» .entry))) (length (now (buf .entry)))) (contentFor self (now («app_data» .entry))) (now (buf .entry)) r (now (buf .exit)) ⌝ }
+    {
+        let total = self.check_write(app_data.len(), buf.len());
+        match total {
+            SizeResult::Err(e) => SizeResult::Err(e),
+            SizeResult::Ok(_) => {
+                put_head(self.sp_header, self.sec_header, buf);
+                frame::put_data(5, app_data, buf)
+            }
+        }
+    }
+
+    // What a write refuses, in its order; the answer is the total.
+    fn check_write(self, app_data_len: usize, found: usize) -> SizeResult
+        ensures { λ r. ⌜ sizeAnswer r ≡ writeOf self «app_data_len» found ⌝ }
+    {
+        let h = self.sp_header;
+        let x = self.sec_header;
+        let c = check(h, x);
+        match c {
+            CheckResult::Err(e) => SizeResult::Err(e),
+            CheckResult::Ok => {
+                let room = frame::room_for(5, app_data_len, self.has_checksum, found);
+                match room {
+                    SizeResult::Err(e) => SizeResult::Err(e),
+                    SizeResult::Ok(total) => {
+                        let v = x.check_version();
+                        match v {
+                            CheckResult::Err(e) => SizeResult::Err(e),
+                            CheckResult::Ok => SizeResult::Ok(total),
+                        }
+                    }
+                }
+            }
+        }
+    }
+
+    // The names of the trait WritablePusPacket.
+    pub fn write_to_slice_no_checksum(self, app_data: &[u8], buf: &mut [u8]) -> SizeResult
+        ensures { λ r. ⌜ Wrote (plainOf self (length (now («app_data» .entry))) (length (now (buf .entry)))) (contentFor self (now («app_data» .entry))) (now (buf .entry)) r (now (buf .exit)) ⌝ }
+    {
+        self.write_to_slice_no_crc(app_data, buf)
+    }
+
+    pub fn write_to_slice_checksum_no_table(self, app_data: &[u8], buf: &mut [u8]) -> SizeResult
+        ensures { λ r. ⌜ Wrote (writeOf self (length (now («app_data» .entry))) (length (now (buf .entry)))) (octetsFor self (now («app_data» .entry))) (now (buf .entry)) r (now (buf .exit)) ⌝ }
+    {
+        self.write_to_slice_crc_no_table(app_data, buf)
+    }
+}
+
+// ---- the writer whose data is filled in the buffer
+
+// A reservation by value; the buffer is lent again to each call. Each but the first and len_written answers 8, then 1.
+pub struct PusTcCreatorWithReservedAppData(Reservation);
+
+pub enum ReservedResult {
+    Ok(PusTcCreatorWithReservedAppData),
+    Err(PusError),
+}
+
+impl PusTcCreatorWithReservedAppData {
+    // Writes octets 0 to 10; 7, 6 for the machine size, 1, 6 for the packet limit, 3.
+    pub fn new(
+        buf: &mut [u8],
+        sp_header: SpHeader,
+        sec_header: PusTcSecondaryHeader,
+        app_data_len: usize,
+        has_checksum: bool,
+    ) -> ReservedResult
+        ensures { λ r. ⌜ (reservedAnswer r ≡ reserveOf «sp_header» «sec_header» «app_data_len» «has_checksum» (length (now (buf .entry)))) × (now (buf .exit) ≡ reservedLeft (reserveOf «sp_header» «sec_header» «app_data_len» «has_checksum» (length (now (buf .entry)))) (headFor «sp_header» «sec_header» «app_data_len» «has_checksum») (now (buf .entry))) ⌝ }
+    {
+        let c = check(sp_header, sec_header);
+        match c {
+            CheckResult::Err(e) => ReservedResult::Err(e),
+            CheckResult::Ok => {
+                let room = frame::room_for(5, app_data_len, has_checksum, buf.len());
+                match room {
+                    SizeResult::Err(e) => ReservedResult::Err(e),
+                    SizeResult::Ok(total) => {
+                        if 65542 < total {
+                            return ReservedResult::Err(PusError::PacketTooLong(app_data_len));
+                        }
+                        let v = sec_header.check_version();
+                        match v {
+                            CheckResult::Err(e) => ReservedResult::Err(e),
+                            CheckResult::Ok => {
+                                let header = with_length(as_command(sp_header), (total - 7) as u16);
+                                put_head(header, sec_header, buf);
+                                ReservedResult::Ok(PusTcCreatorWithReservedAppData(Reservation {
+                                    start: PUS_TC_MIN_LEN_WITHOUT_APP_DATA,
+                                    total,
+                                    has_checksum,
+                                }))
+                            }
+                        }
+                    }
+                }
+            }
+        }
+    }
+
+    // The length of the whole packet.
+    pub fn len_written(self) -> usize
+        ensures { λ r. ⌜ r ≡ self .0 .total ⌝ }
+    {
+        self.0.total
+    }
+
+    // The length of the data; 8.
+    pub fn app_data_len(self) -> SizeResult
+        ensures { λ r. ⌜ sizeAnswer r ≡ dataLenOf 11 (self .0) ⌝ }
+    {
+        let held = self.0;
+        held.data_len(5)
+    }
+
+    // Where the data lies in a buffer of `found` octets.
+    pub fn app_data_bounds(self, found: usize) -> BoundsResult
+        ensures { λ r. ⌜ boundsAnswer r ≡ boundsOf 11 (self .0) found ⌝ }
+    {
+        let held = self.0;
+        held.bounds(5, found)
+    }
+
+    // The data, to be read; the empty part where it is refused.
+    pub fn app_data(self, buf: &[u8]) -> &[u8]
+        ensures { λ r. ⌜ now r ≡ within (boundsOf 11 (self .0) (length (now (buf .entry)))) (now (buf .entry)) ⌝ }
+    {
+        let held = self.0;
+        held.part(5, buf)
+    }
+
+    // The data, to be written; the empty part where it is refused.
+    pub fn app_data_mut(self, buf: &mut [u8]) -> &mut [u8]
+        ensures { λ r. ⌜ (now r ≡ within (boundsOf 11 (self .0) (length (now (buf .entry)))) (now (buf .entry)))
+            × ((r .ptr .0 ≡ buf .entry .ptr .0) × (r .ptr .1 ≡ buf .entry .ptr .1 + beginsAt (boundsOf 11 (self .0) (length (now (buf .entry)))))) ⌝ }
+    {
+        let held = self.0;
+        held.part_mut(5, buf)
+    }
+
+    // Fills the data in from its start; the octets before it and after it stay as they are.
+    pub fn fill_app_data(self, data: &[u8], buf: &mut [u8]) -> SizeResult
+        ensures { λ r. ⌜ (sizeAnswer r ≡ fillIn 11 (self .0) (length (now (buf .entry))) (length (now («data» .entry)))) × (now (buf .exit) ≡ filledBy (fillIn 11 (self .0) (length (now (buf .entry))) (length (now («data» .entry)))) 11 (now («data» .entry)) (now (buf .entry))) ⌝ }
+    {
+        let held = self.0;
+        held.fill(5, data, buf)
+    }
+
+    // Writes the checksum, where there is one, and answers the total.
+    pub fn finalize(self, buf: &mut [u8]) -> SizeResult
+        ensures { λ r. ⌜ Wrote (finishIn 11 (self .0) (length (now (buf .entry)))) (finished (self .0) (now (buf .entry))) (now (buf .entry)) r (now (buf .exit)) ⌝ }
+    {
+        let held = self.0;
+        held.finalize(5, buf, true)
+    }
+
+    pub fn finalize_checksum_no_table(self, buf: &mut [u8]) -> SizeResult
+        ensures { λ r. ⌜ Wrote (finishIn 11 (self .0) (length (now (buf .entry)))) (finished (self .0) (now (buf .entry))) (now (buf .entry)) r (now (buf .exit)) ⌝ }
+    {
+        let held = self.0;
+        held.finalize(5, buf, false)
+    }
+
+    // Writes nothing, and answers the total less the checksum's place.
+    pub fn finalize_no_checksum(self, buf: &[u8]) -> SizeResult
+        ensures { λ r. ⌜ sizeAnswer r ≡ plainIn 11 (self .0) (length (now (buf .entry))) ⌝ }
+    {
+        let held = self.0;
+        held.finalize_no_checksum(5, buf)
+    }
+}
+
+// ---- the builder
+
+// A creator in the making. The data is handed to build.
+pub struct PusTcBuilder {
+    sp_header: SpHeader,
+    sec_header: PusTcSecondaryHeader,
+    has_checksum: bool,
+}
+
+// What a setter hands back: the new builder, or the old one with the refusal.
+pub struct PusTcBuilderSet {
+    pub builder: PusTcBuilder,
+    pub result: CheckResult,
+}
+
+impl PusTcBuilder {
+    pub fn new() -> PusTcBuilder
+        ensures { λ r. ⌜ r ≡ defaultBuilder ⌝ }
+    {
+        let h = SpHeader::default();
+        PusTcBuilder {
+            sp_header: as_command(h),
+            sec_header: PusTcSecondaryHeader::new(MessageTypeId::new(0, 0), ACK_ALL, 0),
+            has_checksum: true,
+        }
+    }
+
+    pub fn default() -> PusTcBuilder
+        ensures { λ r. ⌜ r ≡ defaultBuilder ⌝ }
+    {
+        PusTcBuilder::new()
+    }
+
+    fn with_header(self, sp_header: SpHeader) -> PusTcBuilder
+        ensures { λ r. ⌜ r ≡ builderWithHeader self «sp_header» ⌝ }
+    {
+        let sec_header = self.sec_header;
+        PusTcBuilder {
+            sp_header,
+            sec_header,
+            has_checksum: self.has_checksum,
+        }
+    }
+
+    fn with_sec(self, sec_header: PusTcSecondaryHeader) -> PusTcBuilder
+        ensures { λ r. ⌜ r ≡ builderWithSec self «sec_header» ⌝ }
+    {
+        let sp_header = self.sp_header;
+        PusTcBuilder {
+            sp_header,
+            sec_header,
+            has_checksum: self.has_checksum,
+        }
+    }
+
+    // The builder that was set, or where the check was refused this one.
+    fn kept_if(self, result: CheckResult, set: PusTcBuilder) -> PusTcBuilderSet
+        ensures { λ r. ⌜ builderKept r ≡ setIf (checkAnswer result) self set ⌝ }
+    {
+        match result {
+            CheckResult::Err(_) => PusTcBuilderSet {
+                builder: self,
+                result,
+            },
+            CheckResult::Ok => PusTcBuilderSet {
+                builder: set,
+                result,
+            },
+        }
+    }
+
+    // With what an edit of its primary header handed back.
+    fn edited(self, set: SpHeaderSet) -> PusTcBuilderSet
+        ensures { λ r. ⌜ builderKept r ≡ keptIn (builderWithHeader self) set ⌝ }
+    {
+        let header = set.header;
+        let result = set.result;
+        PusTcBuilderSet {
+            builder: self.with_header(header),
+            result,
+        }
+    }
+
+    // Takes the flag and the APID; the type stays a telecommand's.
+    pub fn with_packet_id(self, packet_id: PacketId) -> PusTcBuilderSet
+        ensures { λ r. ⌜ builderKept r ≡ setIf (apidCheck («packet_id» .apid)) self (builderWithHeader self (withId (self .«sp_header») (idFrom Tc («packet_id» .«sec_header_flag») («packet_id» .apid)))) ⌝ }
+    {
+        let apid = packet_id.apid;
+        let mut h = self.sp_header;
+        h.packet_id = PacketId::new_for_tc(packet_id.sec_header_flag, apid);
+        self.kept_if(apid.check(), self.with_header(h))
+    }
+
+    pub fn with_packet_sequence_control(self, psc: PacketSequenceControl) -> PusTcBuilderSet
+        ensures { λ r. ⌜ builderKept r ≡ setIf (countCheck (psc .«seq_count»)) self (builderWithHeader self (withPsc (self .«sp_header») psc)) ⌝ }
+    {
+        let count = psc.seq_count;
+        let mut h = self.sp_header;
+        h.psc = psc;
+        self.kept_if(count.check(), self.with_header(h))
+    }
+
+    pub fn with_sequence_count(self, seq_count: SeqCount) -> PusTcBuilderSet
+        ensures { λ r. ⌜ builderKept r ≡ setIf (countCheck «seq_count») self (builderWithHeader self (withPsc (self .«sp_header») (pscFrom (self .«sp_header» .psc .«seq_flags») «seq_count»))) ⌝ }
+    {
+        let h = self.sp_header;
+        self.edited(h.set_seq_count(seq_count))
+    }
+
+    pub fn with_message_type_id(self, message_type: MessageTypeId) -> PusTcBuilder
+        ensures { λ r. ⌜ r ≡ builderWithSec self (secFrom «message_type» (self .«sec_header» .«ack_flags») (self .«sec_header» .«source_id») (self .«sec_header» .version)) ⌝ }
+    {
+        let mut x = self.sec_header;
+        x.message_type_id = message_type;
+        self.with_sec(x)
+    }
+
+    pub fn with_service_type_id(self, service: u8) -> PusTcBuilder
+        ensures { λ r. ⌜ r ≡ builderWithSec self (secFrom (messageType service (self .«sec_header» .«message_type_id» .«subtype_id»)) (self .«sec_header» .«ack_flags») (self .«sec_header» .«source_id») (self .«sec_header» .version)) ⌝ }
+    {
+        let x = self.sec_header;
+        self.with_message_type_id(MessageTypeId::new(service, x.message_subtype_id()))
+    }
+
+    pub fn with_message_subtype_id(self, subtype_id: u8) -> PusTcBuilder
+        ensures { λ r. ⌜ r ≡ builderWithSec self (secFrom (messageType (self .«sec_header» .«message_type_id» .«type_id») «subtype_id») (self .«sec_header» .«ack_flags») (self .«sec_header» .«source_id») (self .«sec_header» .version)) ⌝ }
+    {
+        let x = self.sec_header;
+        self.with_message_type_id(MessageTypeId::new(x.service_type_id(), subtype_id))
+    }
+
+    pub fn with_source_id(self, source_id: u16) -> PusTcBuilder
+        ensures { λ r. ⌜ r ≡ builderWithSec self (secFrom (self .«sec_header» .«message_type_id») (self .«sec_header» .«ack_flags») «source_id» (self .«sec_header» .version)) ⌝ }
+    {
+        let mut x = self.sec_header;
+        x.source_id = source_id;
+        self.with_sec(x)
+    }
+
+    pub fn with_ack_flags(self, ack_flags: AckFlags) -> PusTcBuilderSet
+        ensures { λ r. ⌜ builderKept r ≡ setIf (ackCheck «ack_flags») self (builderWithSec self (secFrom (self .«sec_header» .«message_type_id») «ack_flags» (self .«sec_header» .«source_id») (self .«sec_header» .version))) ⌝ }
+    {
+        let mut x = self.sec_header;
+        x.ack_flags = ack_flags;
+        self.kept_if(ack_flags.check(), self.with_sec(x))
+    }
+
+    pub fn with_apid(self, apid: Apid) -> PusTcBuilderSet
+        ensures { λ r. ⌜ builderKept r ≡ setIf (apidCheck apid) self (builderWithHeader self (withId (self .«sp_header») (idWithApid (self .«sp_header» .«packet_id») apid))) ⌝ }
+    {
+        let h = self.sp_header;
+        self.edited(h.set_apid(apid))
+    }
+
+    pub fn with_checksum(self, has_checksum: bool) -> PusTcBuilder
+        ensures { λ r. ⌜ r ≡ builderOf (self .«sp_header») (self .«sec_header») «has_checksum» ⌝ }
+    {
+        let mut b = self;
+        b.has_checksum = has_checksum;
+        b
+    }
+
+    // The creator of this data, with its length set; 7, 6.
+    pub fn build(self, app_data: &[u8]) -> PusTcCreatorResult
+        ensures { λ r. ⌜ creatorAnswer r ≡ newOf (self .«sp_header») (self .«sec_header») (length (now («app_data» .entry))) (record { «set_ccsds_len» = true; «has_checksum» = self .«has_checksum» }) ⌝ }
+    {
+        let sp_header = self.sp_header;
+        let sec_header = self.sec_header;
+        PusTcCreator::new(
+            sp_header,
+            sec_header,
+            app_data,
+            CreatorConfig {
+                set_ccsds_len: true,
+                has_checksum: self.has_checksum,
+            },
+        )
+    }
+}
