@@ -1,0 +1,323 @@
+// PUS-C telecommands read, after ECSS-E-ST-70-41C: the record of what octets hold, the parts of them that are handed out
+// without a copy, and the comparisons.
+ghost use mathlib.Core.Path.{_≡_};
+ghost use mathlib.Core.Bool.{false};
+ghost use Prim.Native.Nat.{_+_, _-_, _≤_};
+ghost use lib.ListN.{length};
+ghost use Rattle.space_packet.specs.Header.{totalOf};
+ghost use Rattle.ecss.specs.Frame.{trailer};
+ghost use Rattle.tc_read.specs.Read.{recordOf, recordAnswer, readOf, checkedRead, appData, rawData, equalsCreator, equalsReader, crcTaken, hasCrc, isRead};
+use ecss::MessageTypeId;
+use ecss::PusError;
+use ecss::PusVersion;
+use ecss::frame;
+use ecss_tc::PusTcCreator;
+use space_packet::Apid;
+use space_packet::PacketId;
+use space_packet::PacketSequenceControl;
+use space_packet::SizeResult;
+use space_packet::SpHeader;
+use space_packet::SpHeaderResult;
+use tc_header::AckFlags;
+use tc_header::PusTcSecondaryHeader;
+use tc_header::SecHeaderResult;
+
+// The Rust's Option<u16>: the checksum, where it was taken.
+pub enum Crc16 {
+    Some(u16),
+    None,
+}
+
+// What a reader reports.
+pub struct PusTcRecord {
+    pub sp_header: SpHeader,
+    pub sec_header: PusTcSecondaryHeader,
+    // The application data: from the octet `start` up to `end`.
+    pub start: usize,
+    pub end: usize,
+    // The octets of the whole packet.
+    pub total: usize,
+    pub crc16: Crc16,
+}
+
+pub enum PusTcRecordResult {
+    Ok(PusTcRecord),
+    Err(PusError),
+}
+
+// The checksum that a packet of `total` octets stores, where it is taken.
+fn crc_taken(slice: &[u8], total: usize, has_checksum: bool) -> Crc16
+    requires { ⌜ 2 ≤ total ⌝ }
+    ensures { λ r. ⌜ r ≡ crcTaken «has_checksum» (now (slice .entry)) total ⌝ }
+{
+    if has_checksum {
+        return Crc16::Some(space_packet::word_at(slice, total - 2));
+    }
+    Crc16::None
+}
+
+// Where the data of a packet of `total` octets ends.
+fn end_of(total: usize, has_checksum: bool) -> usize
+    requires { ⌜ 2 ≤ total ⌝ }
+    ensures { λ r. ⌜ r ≡ total - trailer «has_checksum» ⌝ }
+{
+    if has_checksum { total - 2 } else { total }
+}
+
+impl PusTcRecord {
+    // The checksum is taken and compared: reads the packet that octets begin with; 2, 4.
+    pub fn new(slice: &[u8]) -> PusTcRecordResult
+        ensures { λ r. ⌜ recordAnswer r ≡ checkedRead (now (slice .entry)) ⌝ }
+    {
+        PusTcRecord::checked(slice, true)
+    }
+
+    pub fn new_checksum_no_table(slice: &[u8]) -> PusTcRecordResult
+        ensures { λ r. ⌜ recordAnswer r ≡ checkedRead (now (slice .entry)) ⌝ }
+    {
+        PusTcRecord::checked(slice, false)
+    }
+
+    fn checked(slice: &[u8], table: bool) -> PusTcRecordResult
+        ensures { λ r. ⌜ recordAnswer r ≡ checkedRead (now (slice .entry)) ⌝ }
+    {
+        let f = frame::checked(slice, 5, table);
+        match f {
+            SizeResult::Err(e) => PusTcRecordResult::Err(e),
+            SizeResult::Ok(total) => PusTcRecord::of(slice, total, true),
+        }
+    }
+
+    // No checksum is expected; 2.
+    pub fn new_no_checksum(slice: &[u8]) -> PusTcRecordResult
+        ensures { λ r. ⌜ recordAnswer r ≡ readOf (now (slice .entry)) false ⌝ }
+    {
+        PusTcRecord::new_no_checksum_verification(slice, false)
+    }
+
+    // A checksum is taken where there is one, and not compared; 2.
+    pub fn new_no_checksum_verification(slice: &[u8], has_checksum: bool) -> PusTcRecordResult
+        ensures { λ r. ⌜ recordAnswer r ≡ readOf (now (slice .entry)) «has_checksum» ⌝ }
+    {
+        let f = frame::frame_of(slice, 5, has_checksum);
+        match f {
+            SizeResult::Err(e) => PusTcRecordResult::Err(e),
+            SizeResult::Ok(total) => PusTcRecord::of(slice, total, has_checksum),
+        }
+    }
+
+    // The record of a packet of `total` octets.
+    fn of(slice: &[u8], total: usize, has_checksum: bool) -> PusTcRecordResult
+        requires { ⌜ (11 + trailer «has_checksum» ≤ total) × (total ≤ length (now slice)) ⌝ }
+        ensures { λ r. ⌜ r ≡ PusTcRecordResult.Ok (recordOf (now (slice .entry)) «has_checksum» total) ⌝ }
+    {
+        let header = SpHeader::from_be_bytes(slice);
+        match header {
+            SpHeaderResult::Err(e) => PusTcRecordResult::Err(e),
+            SpHeaderResult::Ok(sp_header) => {
+                let second = PusTcSecondaryHeader::from_be_bytes(&slice[6..11]);
+                match second {
+                    SecHeaderResult::Err(e) => PusTcRecordResult::Err(e),
+                    SecHeaderResult::Ok(sec_header) => {
+                        let end = end_of(total, has_checksum);
+                        let crc16 = crc_taken(slice, total, has_checksum);
+                        PusTcRecordResult::Ok(PusTcRecord {
+                            sp_header,
+                            sec_header,
+                            start: 11,
+                            end,
+                            total,
+                            crc16,
+                        })
+                    }
+                }
+            }
+        }
+    }
+
+    // ---- reading
+
+    // The total that the length field states.
+    pub fn len_packed(self) -> usize
+        ensures { λ r. ⌜ r ≡ totalOf (self .«sp_header») ⌝ }
+    {
+        let h = self.sp_header;
+        h.packet_len()
+    }
+
+    pub fn sp_header(self) -> SpHeader
+        ensures { λ r. ⌜ r ≡ self .«sp_header» ⌝ }
+    {
+        self.sp_header
+    }
+
+    pub fn sec_header(self) -> PusTcSecondaryHeader
+        ensures { λ r. ⌜ r ≡ self .«sec_header» ⌝ }
+    {
+        self.sec_header
+    }
+
+    // The checksum, where it was taken.
+    pub fn crc16(self) -> Crc16
+        ensures { λ r. ⌜ r ≡ self .crc16 ⌝ }
+    {
+        self.crc16
+    }
+
+    // The name of the trait PusPacket.
+    pub fn checksum(self) -> Crc16
+        ensures { λ r. ⌜ r ≡ self .crc16 ⌝ }
+    {
+        self.crc16
+    }
+
+    pub fn has_checksum(self) -> bool
+        ensures { λ r. ⌜ r ≡ hasCrc (self .crc16) ⌝ }
+    {
+        let crc16 = self.crc16;
+        match crc16 {
+            Crc16::Some(_) => true,
+            Crc16::None => false,
+        }
+    }
+
+    pub fn ccsds_version(self) -> u8
+        ensures { λ r. ⌜ r ≡ self .«sp_header» .version ⌝ }
+    {
+        let h = self.sp_header;
+        h.version
+    }
+
+    pub fn packet_id(self) -> PacketId
+        ensures { λ r. ⌜ r ≡ self .«sp_header» .«packet_id» ⌝ }
+    {
+        let h = self.sp_header;
+        h.packet_id
+    }
+
+    pub fn psc(self) -> PacketSequenceControl
+        ensures { λ r. ⌜ r ≡ self .«sp_header» .psc ⌝ }
+    {
+        let h = self.sp_header;
+        h.psc
+    }
+
+    pub fn data_len(self) -> u16
+        ensures { λ r. ⌜ r ≡ self .«sp_header» .«data_len» ⌝ }
+    {
+        let h = self.sp_header;
+        h.data_len
+    }
+
+    pub fn apid(self) -> Apid
+        ensures { λ r. ⌜ r ≡ self .«sp_header» .«packet_id» .apid ⌝ }
+    {
+        let h = self.sp_header;
+        h.apid()
+    }
+
+    pub fn pus_version(self) -> PusVersion
+        ensures { λ r. ⌜ r ≡ self .«sec_header» .version ⌝ }
+    {
+        let x = self.sec_header;
+        x.version
+    }
+
+    pub fn message_type_id(self) -> MessageTypeId
+        ensures { λ r. ⌜ r ≡ self .«sec_header» .«message_type_id» ⌝ }
+    {
+        let x = self.sec_header;
+        x.message_type_id
+    }
+
+    pub fn source_id(self) -> u16
+        ensures { λ r. ⌜ r ≡ self .«sec_header» .«source_id» ⌝ }
+    {
+        let x = self.sec_header;
+        x.source_id
+    }
+
+    pub fn ack_flags(self) -> AckFlags
+        ensures { λ r. ⌜ r ≡ self .«sec_header» .«ack_flags» ⌝ }
+    {
+        let x = self.sec_header;
+        x.ack_flags
+    }
+
+    pub fn service_type_id(self) -> u8
+        ensures { λ r. ⌜ r ≡ self .«sec_header» .«message_type_id» .«type_id» ⌝ }
+    {
+        let x = self.sec_header;
+        x.service_type_id()
+    }
+
+    pub fn message_subtype_id(self) -> u8
+        ensures { λ r. ⌜ r ≡ self .«sec_header» .«message_type_id» .«subtype_id» ⌝ }
+    {
+        let x = self.sec_header;
+        x.message_subtype_id()
+    }
+}
+
+// ---- parts, and comparisons: each takes the octets and the choice of checksum, and reads anew
+
+// The application data; the empty part where the read is refused.
+pub fn app_data(slice: &[u8], has_checksum: bool) -> &[u8]
+    ensures { λ r. ⌜ now r ≡ appData (now (slice .entry)) «has_checksum» ⌝ }
+{
+    frame::data_part(slice, 5, has_checksum)
+}
+
+// The whole packet; the empty part where the read is refused.
+pub fn raw_data(slice: &[u8], has_checksum: bool) -> &[u8]
+    ensures { λ r. ⌜ now r ≡ rawData (now (slice .entry)) «has_checksum» ⌝ }
+{
+    frame::raw_part(slice, 5, has_checksum)
+}
+
+// Whether what is read is the creator's: both headers and the data.
+pub fn eq_creator(slice: &[u8], has_checksum: bool, creator: PusTcCreator, data: &[u8]) -> bool
+    ensures { λ r. ⌜ r ≡ equalsCreator (now (slice .entry)) «has_checksum» creator (now («data» .entry)) ⌝ }
+{
+    let read = PusTcRecord::new_no_checksum_verification(slice, has_checksum);
+    match read {
+        PusTcRecordResult::Err(_) => false,
+        PusTcRecordResult::Ok(record) => {
+            let h = record.sp_header;
+            if !h.eq(creator.sp_header()) {
+                return false;
+            }
+            let x = record.sec_header;
+            if !x.eq(creator.sec_header()) {
+                return false;
+            }
+            let user = app_data(slice, has_checksum);
+            frame::same_octets(user, data)
+        }
+    }
+}
+
+fn is_read(slice: &[u8], has_checksum: bool) -> bool
+    ensures { λ r. ⌜ r ≡ isRead (readOf (now (slice .entry)) «has_checksum») ⌝ }
+{
+    let read = PusTcRecord::new_no_checksum_verification(slice, has_checksum);
+    match read {
+        PusTcRecordResult::Err(_) => false,
+        PusTcRecordResult::Ok(_) => true,
+    }
+}
+
+// Whether two readers hold the same packet: by their raw octets only.
+pub fn eq_reader(slice: &[u8], has_checksum: bool, other: &[u8], other_has_checksum: bool) -> bool
+    ensures { λ r. ⌜ r ≡ equalsReader (now (slice .entry)) «has_checksum» (now (other .entry)) «other_has_checksum» ⌝ }
+{
+    if !is_read(slice, has_checksum) {
+        return false;
+    }
+    if !is_read(other, other_has_checksum) {
+        return false;
+    }
+    let raw = raw_data(slice, has_checksum);
+    let other_raw = raw_data(other, other_has_checksum);
+    frame::same_octets(raw, other_raw)
+}

@@ -1,0 +1,3 @@
+pub mod Anew
+pub mod Determined
+pub mod Reader
