@@ -7,5 +7,4 @@ pub mod Residue
 pub mod Parts
 pub mod Division
 pub mod Remainder
-pub mod Cases
 pub mod Determined

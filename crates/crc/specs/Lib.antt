@@ -3,4 +3,3 @@ pub mod Error
 pub mod Division
 pub mod Digest
 pub mod Table
-pub mod Cases

@@ -1,0 +1,4 @@
+pub mod Determined
+pub mod Pieces
+pub mod Verdicts
+pub mod Walks

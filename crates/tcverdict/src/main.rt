@@ -1,0 +1,4 @@
+// Judges the packets of standard input.
+fn main() {
+    report::run(libc::STDIN_FILENO);
+}

@@ -1,0 +1,93 @@
+#!/usr/bin/env python3
+"""Make the captures that the gate runs tcverdict's report on, and what it must print of each.
+
+    tools/captures.py
+
+Writes crates/captures/data/*, args and stdout, and crates/tcverdict/stdin and stdout. What is printed comes from the
+model (model.py), never from the program.
+"""
+import random
+from pathlib import Path
+
+import model
+
+CRATES = Path(__file__).resolve().parent.parent / "crates"
+P5 = bytes.fromhex("1923C00500062F11010000616D")
+P6 = P5[:-1] + b"\x6c"
+
+
+def packet(data=b"", first=0x19, octet_6=0x2F, service=17, subtype=1, apid=0x23):
+    """A packet with its length and its checksum, whatever its other bits."""
+    head = bytes([first, apid, 0xC0, 5]) + model.be16(11 + len(data) + 2 - 7)
+    content = head + bytes([octet_6, service, subtype, 0, 0]) + data
+    return content + model.be16(model.crc(content))
+
+
+def report(capture):
+    lines = ["tcverdict 1"]
+    if len(capture) > 65536:
+        return lines + ["too long"]
+    for word in model.split(capture):
+        at, _, rest = word.partition(":")
+        if at == "end":
+            lines.append(f"end {rest}")
+            continue
+        length, kind = rest.split(":")
+        if kind == "accept":
+            octets = capture[int(at):]
+            kind = f"accept {octets[7]} {octets[8]}"
+        elif kind != "tail":
+            kind = f"refuse {kind}"
+        lines.append(f"{at} {length} {kind}")
+    return lines
+
+
+def captures():
+    chance = random.Random(5)
+    full = packet(bytes(chance.randrange(256) for _ in range(65536 - 13)))
+    yield "empty", b""
+    yield "one_short", P5[:-1]
+    yield "five", P5[:5]
+    yield "largest", full[:65536]
+    yield "exactly", P5 * 5041 + P5[:3]
+    yield "over", (P5 * 5042)[:65537]
+    yield "length_below_headers", bytes.fromhex("1923C005000300000000")
+    yield "no_room_for_checksum", bytes.fromhex("1923C00500042F11010000")
+    yield "version_1", packet(octet_6=0x1F)
+    yield "checksum", P6
+    yield "packet_version_1", packet(first=0x39)
+    yield "telemetry", packet(first=0x09)
+    yield "no_secondary_header", packet(first=0x11)
+    yield "two_faults", packet(first=0x29, octet_6=0x1F) + packet(first=0x01, octet_6=0x0F)
+    yield "idle_apid", packet(first=0x1F, apid=0xFF)
+    yield "many", b"".join(
+        packet(bytes(chance.randrange(256) for _ in range(n % 23)), service=n % 256, subtype=n % 7) for n in range(400)
+    )
+    yield "random", bytes(chance.randrange(256) for _ in range(3000))
+    yield "random_short_lengths", b"".join(
+        bytes(chance.randrange(256) for _ in range(4)) + b"\x00" + bytes(chance.randrange(256) for _ in range(9))
+        for _ in range(60)
+    )
+
+
+def main():
+    folder = CRATES / "captures/data"
+    folder.mkdir(parents=True, exist_ok=True)
+    for old in folder.iterdir():
+        old.unlink()
+    names, lines = [], []
+    for name, capture in captures():
+        names.append(name)
+        (folder / name).write_bytes(capture)
+        lines += [f"== {name}", *report(capture)]
+    names.append("missing")
+    lines += ["== missing", "cannot be opened"]
+    (CRATES / "captures/args").write_text("\n".join(names) + "\n")
+    (CRATES / "captures/stdout").write_text("\n".join(lines) + "\n")
+    example = P5 + P6 + P5[:3]
+    (CRATES / "tcverdict/stdin").write_bytes(example)
+    (CRATES / "tcverdict/stdout").write_text("\n".join(report(example)) + "\n")
+
+
+if __name__ == "__main__":
+    main()

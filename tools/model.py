@@ -1,0 +1,529 @@
+#!/usr/bin/env python3
+"""A model of the packet layer's answers, written from its rules alone.
+
+It speaks the protocol of docs/PROTOCOL.md, one request a line in and one answer a line out, and was written from the
+layout, the table of refusals and the orders of refusals, without a look at the port or at the crate. The checksum is
+Python's own, binascii.crc_hqx. Unlike the crate it also has an answer outside the domain of equality (a field over its
+width, a version other than C, a total above 65,542 octets), and to `strict` and `split`.
+
+    tools/model.py <requests >answers
+"""
+
+import binascii
+import sys
+
+MACHINE = 2**64 - 1        # the largest machine size
+LIMIT = 65542              # the largest total that a length field can state
+HEADERS = 11               # primary and secondary header
+WIDTHS = {1: 7, 2: 2047, 3: 16383, 4: 15}         # the largest in range, by the place that refusal 7 reports
+SETTER_PLACES = {'apid': 2, 'scount': 3, 'ack': 4}
+
+
+class Refused(Exception):
+    """A refusal: its number, then its values."""
+
+    def __str__(self):
+        return ':'.join(['err', *map(str, self.args)])
+
+
+class BadRequest(Exception):
+    """A line that is no request."""
+
+
+# Refusals, and the records they are about.
+
+def refuse_if(test, *number_and_values):
+    if test:
+        raise Refused(*number_and_values)
+
+
+def in_range(place, value):
+    """7: FieldRange place, value."""
+    refuse_if(value > WIDTHS[place], 7, place, value)
+    return value
+
+
+def outcome(call, *arguments):
+    """The answer of a call as a word: what it gives, or its refusal."""
+    try:
+        return str(call(*arguments))
+    except Refused as refusal:
+        return str(refusal)
+
+
+def crc(octets):
+    return binascii.crc_hqx(octets, 0xFFFF)
+
+
+def crc_text(octets):
+    return f'{crc(octets):04X}'
+
+
+def be16(number):
+    return number.to_bytes(2, 'big')
+
+
+class Sp:
+    """The primary header."""
+
+    NAMES = ('pvn', 'type', 'shf', 'apid', 'sflags', 'scount', 'dlen')
+
+    def __init__(self, *fields):
+        self.__dict__.update(zip(self.NAMES, fields))
+
+    def __str__(self):
+        return ','.join(str(getattr(self, name)) for name in self.NAMES)
+
+    def id_raw(self):
+        return self.type << 12 | self.shf << 11 | self.apid
+
+    def psc_raw(self):
+        return self.sflags << 14 | self.scount
+
+    def octets(self):
+        return be16(self.pvn << 13 | self.id_raw()) + be16(self.psc_raw()) + be16(self.dlen)
+
+    def check(self):
+        in_range(1, self.pvn)
+        in_range(2, self.apid)
+        in_range(3, self.scount)
+
+    @classmethod
+    def read(cls, octets):
+        """The fields of six octets."""
+        first, second, length = (int.from_bytes(octets[at:at + 2], 'big') for at in (0, 2, 4))
+        return cls(first >> 13, first >> 12 & 1, first >> 11 & 1, first & 2047, second >> 14, second & 16383, length)
+
+
+class Sec:
+    """The secondary header of a telecommand."""
+
+    NAMES = ('version', 'ack', 'service', 'subtype', 'source')
+
+    def __init__(self, *fields):
+        self.__dict__.update(zip(self.NAMES, fields))
+
+    __str__ = Sp.__str__
+
+    def octets(self):
+        return bytes([self.version << 4 | self.ack, self.service, self.subtype]) + be16(self.source)
+
+    def check(self):
+        in_range(4, self.ack)
+
+    @classmethod
+    def read(cls, octets):
+        """The fields of octets 6 to 10 of a packet; the version is always reported as C."""
+        return cls(2, octets[6] & 15, octets[7], octets[8], int.from_bytes(octets[9:11], 'big'))
+
+
+# Writing.
+
+class Creator:
+    """A telecommand to write. Construction: 7, 6."""
+
+    def __init__(self, sp, sec, set_length, has_checksum, data):
+        self.sp, self.sec, self.has_checksum, self.data = sp, sec, has_checksum, data
+        self.check()
+        sp.type, sp.shf = 1, 1
+        if set_length:
+            self.update_length()
+
+    def check(self):
+        self.sp.check()
+        self.sec.check()
+
+    def total(self):
+        return HEADERS + len(self.data) + 2 * self.has_checksum
+
+    def update_length(self):
+        """7, 6."""
+        self.check()
+        refuse_if(self.total() > LIMIT, 6, len(self.data))
+        self.sp.dlen = self.total() - 7
+
+    def version_check(self):
+        refuse_if(self.sec.version != 2, 3, self.sec.version)
+
+    def body(self):
+        return self.sp.octets() + self.sec.octets() + self.data
+
+    def own_checksum(self):
+        """7, 3."""
+        self.check()
+        self.version_check()
+        return crc_text(self.body())
+
+    def write(self, buffer, checksum_wanted):
+        """7, 1, 3. The number of octets and the buffer after."""
+        self.check()
+        refuse_if(len(buffer) < self.total(), 1, len(buffer), self.total())
+        self.version_check()
+        packet = self.body()
+        if self.has_checksum and checksum_wanted:
+            packet += be16(crc(packet))
+        return len(packet), packet + buffer[len(packet):]
+
+    def edit(self, name, *values):
+        """A setter: 7, for what is handed in. The version number has none: it stands until the record is used."""
+        if name == 'upd':
+            return self.update_length()
+        if name in SETTER_PLACES:
+            in_range(SETTER_PLACES[name], *values)
+        setattr(self.sp if name in Sp.NAMES else self.sec, name, *values)
+
+    def answer(self, buffer):
+        """The record, then each of the three writes on its own copy of the buffer."""
+        words = ['made', self.sp, self.sec, self.has_checksum, self.total(), outcome(self.own_checksum)]
+        for checksum_wanted in (True, True, False):
+            words += written(self.write, buffer, checksum_wanted)
+        return words
+
+
+def written(write, buffer, *rest):
+    """The outcome of a write and the buffer after it; a refusal alters no octet."""
+    try:
+        count, after = write(buffer, *rest)
+        return [f'ok:{count}', text(after)]
+    except Refused as refusal:
+        return [refusal, text(buffer)]
+
+
+def sp_write(buffer, sp):
+    """7, 1."""
+    sp.check()
+    refuse_if(len(buffer) < 6, 1, len(buffer), 6)
+    return 6, sp.octets() + buffer[6:]
+
+
+def new_builder():
+    return Sp(0, 1, 1, 0, 3, 0, 0), Sec(2, 15, 0, 0, 0)
+
+
+def build(setters, data):
+    """The builder: each setter refuses what is handed in, 7; then construction, with the length set."""
+    sp, sec = new_builder()
+    has_checksum, used = 1, b''
+    for name, values in setters:
+        if name in ('pid', 'apid'):
+            sp.apid = in_range(2, values[-1])             # type and flag are construction's
+        elif name in ('psc', 'scount'):
+            sp.scount = in_range(3, values[-1])
+            sp.sflags = values[0] if name == 'psc' else sp.sflags
+        elif name == 'ack':
+            sec.ack = in_range(4, *values)
+        elif name == 'mtid':
+            sec.service, sec.subtype = values
+        elif name == 'cksum':
+            has_checksum, = values
+        elif name == 'data':
+            used = data
+        else:
+            setattr(sec, name, *values)
+    return Creator(sp, sec, 1, has_checksum, used)
+
+
+def reserve(sp, sec, data_len, has_checksum, fill, finish, buffer):
+    """7, 6 for the machine size, 1, 6 for the packet limit, 3; then the data part filled, then the finish."""
+    total = HEADERS + data_len + 2 * has_checksum
+    try:
+        sp.check()
+        sec.check()
+        refuse_if(total > MACHINE, 6, data_len)
+        refuse_if(len(buffer) < total, 1, len(buffer), total)
+        refuse_if(total > LIMIT, 6, data_len)
+        refuse_if(sec.version != 2, 3, sec.version)
+    except Refused as refusal:
+        return [refusal, text(buffer)]
+    sp.type, sp.shf, sp.dlen = 1, 1, total - 7
+    first = sp.octets() + sec.octets() + buffer[HEADERS:]
+    filled = first[:HEADERS] + fill + first[HEADERS + len(fill):]
+    end = HEADERS + data_len
+    if finish == 'c':
+        count, last = end, filled
+    else:
+        stored = be16(crc(filled[:end])) if has_checksum else b''
+        count, last = total, filled[:end] + stored + filled[total:]
+    return ['ok', text(first), total, data_len, HEADERS, data_len, f'ok:{count}', text(last)]
+
+
+# Reading.
+
+class Reader:
+    """A packet read. `checksum` is none, taken or compared."""
+
+    def __init__(self, octets, checksum):
+        refuse_if(len(octets) < HEADERS, 2, len(octets), HEADERS)
+        self.sp, self.sec = Sp.read(octets), Sec.read(octets)
+        self.total = self.sp.dlen + 7
+        refuse_if(len(octets) < self.total, 2, len(octets), self.total)
+        refuse_if(self.total < HEADERS, 2, self.total, HEADERS)
+        self.raw, self.stored, self.end = octets[:self.total], '-', self.total
+        if checksum != 'none':
+            self.end = self.total - 2
+            refuse_if(self.end < HEADERS, 2, self.end, HEADERS)
+            self.stored = text(self.raw[self.end:])
+        refuse_if(checksum == 'compared' and crc(self.raw) != 0, 4, self.stored)
+        self.data = self.raw[HEADERS:self.end]
+
+    def place(self):
+        return [self.total, HEADERS, len(self.data)]
+
+    def equals_creator(self, creator):
+        return str(self.sp) == str(creator.sp) and str(self.sec) == str(creator.sec) and self.data == creator.data
+
+
+WAYS = {'new': 'compared', 'nt': 'compared', 'noverify': 'taken', 'nocrc': 'none'}
+
+
+def strict(octets):
+    """All reader checks with the checksum, then 9, 10, 11, 3."""
+    reader = Reader(octets, 'compared')
+    refuse_if(reader.sp.pvn != 0, 9, reader.sp.pvn)
+    refuse_if(reader.sp.type == 0, 10)
+    refuse_if(reader.sp.shf == 0, 11)
+    refuse_if(octets[6] >> 4 != 2, 3, octets[6] >> 4)
+    return reader
+
+
+def verdict(octets):
+    """`accept`, or the number of the refusal."""
+    try:
+        strict(octets)
+        return 'accept'
+    except Refused as refusal:
+        return refusal.args[0]
+
+
+def split(octets):
+    at, words = 0, []
+    while len(octets) - at >= 6:
+        total = Sp.read(octets[at:at + 6]).dlen + 7
+        if len(octets) - at < total:
+            break
+        words.append(f'{at}:{total}:{verdict(octets[at:at + total])}')
+        at += total
+    if at < len(octets):
+        words.append(f'{at}:{len(octets) - at}:tail')
+    return words + [f'end:{len(octets)}']
+
+
+# The words of the protocol.
+
+def text(octets):
+    return octets.hex().upper() or '-'
+
+
+def octets_of(word):
+    if word == '-':
+        return b''
+    if not word or len(word) % 2 or not set(word) <= set('0123456789ABCDEF'):
+        raise BadRequest
+    return bytes.fromhex(word)
+
+
+def checksum_of(word):
+    if word == '-' or len(word) != 4:
+        raise BadRequest
+    return octets_of(word)
+
+
+def up_to(top):
+    """A number in 1 to 20 digits."""
+    def read(word):
+        if not 1 <= len(word) <= 20 or not set(word) <= set('0123456789') or int(word) > top:
+            raise BadRequest
+        return int(word)
+    return read
+
+
+def one_of(*words):
+    def read(word):
+        if word not in words:
+            raise BadRequest
+        return word
+    return read
+
+
+def digit_of(*digits):
+    """A number in one digit, one of these."""
+    return lambda word: int(one_of(*digits)(word))
+
+
+def row_of(*readers):
+    def read(word):
+        return [read_one(one) for read_one, one in pairs(readers, word.split(','))]
+    return read
+
+
+def pairs(readers, words):
+    if len(readers) != len(words):
+        raise BadRequest
+    return zip(readers, words)
+
+
+def list_of(grammar):
+    """A list of `name=values` with `;` between; `-` for none. A name without a reader of values stands alone."""
+    def read(word):
+        items = []
+        for item in [] if word == '-' else word.split(';'):
+            name, equals, values = item.partition('=')
+            if name not in grammar or bool(equals) != bool(grammar[name]):
+                raise BadRequest
+            items.append((name, grammar[name](values) if equals else []))
+        return items
+    return read
+
+
+U8, U16, U64 = up_to(255), up_to(65535), up_to(MACHINE)
+FLAG, SEQFLAGS, VERSION = digit_of('0', '1'), digit_of('0', '1', '2', '3'), digit_of('0', '1', '2')
+SP_ROW, SEC_ROW = (U8, FLAG, FLAG, U16, SEQFLAGS, U16, U16), (VERSION, U8, U8, U8, U16)
+DATA, CCCC, MODE, FIN = octets_of, checksum_of, one_of(*WAYS), one_of('f', 'n', 'c')
+EDITS = list_of({'upd': None} | {
+    name: row_of(read) for name, read in [*zip(Sp.NAMES, SP_ROW), *zip(Sec.NAMES, SEC_ROW)]})
+SETTERS = list_of({
+    'pid': row_of(FLAG, FLAG, U16), 'psc': row_of(SEQFLAGS, U16), 'scount': row_of(U16), 'mtid': row_of(U8, U8),
+    'service': row_of(U8), 'subtype': row_of(U8), 'source': row_of(U16), 'ack': row_of(U8), 'apid': row_of(U16),
+    'cksum': row_of(FLAG), 'data': row_of(one_of('1'))})
+
+
+def SP(word):
+    return Sp(*row_of(*SP_ROW)(word))
+
+
+def SEC(word):
+    return Sec(*row_of(*SEC_ROW)(word))
+
+
+# The requests: each gives its words.
+
+def edited(sp, sec, set_length, has_checksum, data, edits):
+    creator = Creator(sp, sec, set_length, has_checksum, data)
+    for name, values in edits:
+        creator.edit(name, *values)
+    return creator
+
+
+def do_crc(octets):
+    return [crc_text(octets)] * 3
+
+
+def do_verify(octets, stored):
+    verifies = crc(octets) == 0
+    return [int(verifies)] * 2 + ['ok' if verifies else Refused(4, text(stored))] * 2
+
+
+def do_sphread(octets):
+    refuse_if(len(octets) < 6, 2, len(octets), 6)
+    sp = Sp.read(octets)
+    return ['ok', sp, sp.dlen + 7, len(octets) - 6, sp.id_raw(), sp.psc_raw()]
+
+
+def do_sphwrite(sp, buffer):
+    return written(sp_write, buffer, sp)
+
+
+def do_read(mode, octets):
+    reader = Reader(octets, WAYS[mode])
+    return ['ok', reader.sp, reader.sec, *reader.place(), reader.stored]
+
+
+def do_create(sp, sec, set_length, has_checksum, data, edits, buffer):
+    return edited(sp, sec, set_length, has_checksum, data, edits).answer(buffer)
+
+
+def do_build(setters, data, buffer):
+    return build(setters, data).answer(buffer)
+
+
+def do_reserve(sp, sec, data_len, has_checksum, fill, finish, buffer):
+    if len(fill) > data_len:
+        raise BadRequest
+    return reserve(sp, sec, data_len, has_checksum, fill, finish, buffer)
+
+
+def do_cmprc(mode, octets, sp, sec, set_length, has_checksum, data, edits):
+    reader = Reader(octets, WAYS[mode])
+    creator = edited(sp, sec, set_length, has_checksum, data, edits)
+    return [int(reader.equals_creator(creator))] * 2
+
+
+def do_cmprr(mode, octets, other_mode, other_octets):
+    reads, words = [], []
+    for way, packet in (mode, octets), (other_mode, other_octets):
+        try:
+            reads.append(Reader(packet, WAYS[way]))
+            words.append('ok')
+        except Refused as refusal:
+            words.append(refusal)
+    if len(reads) < 2:
+        return words
+    return [int(reads[0].raw == reads[1].raw)] * 2
+
+
+def do_simple(apid, service, subtype):
+    sp = Sp(0, 0, 0, in_range(2, apid), 3, 0, 0)
+    first = str(sp)
+    return [first, *Creator(sp, Sec(2, 15, service, subtype, 0), 1, 1, b'').answer(bytes(13))]
+
+
+def do_ack(number):
+    in_range(4, number)
+    return [number >> bit & 1 for bit in (3, 2, 1, 0)]
+
+
+def do_consts():
+    return ['ALL=15 HEADER_LEN=5 LENGTH=6 MIN=11 DEFAULT=0 MAX_APID=2047 MAX_SEQ_COUNT=16383']
+
+
+def do_strict(octets):
+    reader = strict(octets)
+    return ['accept', reader.sp, reader.sec, *reader.place()]
+
+
+CREATION = [SP, SEC, FLAG, FLAG, DATA, EDITS]
+REQUESTS = {
+    'crc': (do_crc, [DATA]),
+    'verify': (do_verify, [DATA, CCCC]),
+    'sphread': (do_sphread, [DATA]),
+    'sphwrite': (do_sphwrite, [SP, DATA]),
+    'read': (do_read, [MODE, DATA]),
+    'create': (do_create, [*CREATION, DATA]),
+    'build': (do_build, [SETTERS, DATA, DATA]),
+    'reserve': (do_reserve, [SP, SEC, U64, FLAG, DATA, FIN, DATA]),
+    'cmprc': (do_cmprc, [MODE, DATA, *CREATION]),
+    'cmprr': (do_cmprr, [MODE, DATA, MODE, DATA]),
+    'simple': (do_simple, [U16, U8, U8]),
+    'ack': (do_ack, [U8]),
+    'consts': (do_consts, []),
+    'strict': (do_strict, [DATA]),
+    'split': (split, [DATA]),
+}
+
+
+def parsed(line):
+    """The kind of a request and its fields, each by its grammar."""
+    kind, *words = line.split(' ')
+    if kind not in REQUESTS:
+        raise BadRequest
+    return kind, [read(word) for read, word in pairs(REQUESTS[kind][1], words)]
+
+
+def answer(line):
+    """The answer to one request, both without the end of line."""
+    try:
+        kind, fields = parsed(line)
+        return ' '.join(map(str, REQUESTS[kind][0](*fields)))
+    except Refused as refusal:
+        return str(refusal)
+    except BadRequest:
+        return 'bad-request'
+
+
+def main():
+    for line in sys.stdin.buffer:
+        print(answer(line.removesuffix(b'\n').decode('latin-1')))
+
+
+if __name__ == '__main__':
+    main()
