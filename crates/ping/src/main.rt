@@ -1,0 +1,173 @@
+// A ping command: built in four ways, written, read and judged.
+use ecss::CreatorConfig;
+use ecss::MessageTypeId;
+use ecss::PusError;
+use ecss_tc::PusTcBuilder;
+use ecss_tc::PusTcCreator;
+use ecss_tc::PusTcCreatorResult;
+use ecss_tc::PusTcCreatorWithReservedAppData;
+use ecss_tc::ReservedResult;
+use libc::STDOUT_FILENO;
+use space_packet::Apid;
+use space_packet::ApidResult;
+use space_packet::SeqCount;
+use space_packet::SeqCountResult;
+use space_packet::SizeResult;
+use space_packet::SpHeader;
+use strict::Verdict;
+use tc_header::PusTcSecondaryHeader;
+
+fn say(text: &[u8]) {
+    io::write_all(STDOUT_FILENO, text);
+}
+
+fn say_number(n: usize) {
+    io::print_decimal(STDOUT_FILENO, n as u64);
+}
+
+fn say_refusal(e: PusError) {
+    say(b"refused ");
+    say_number(e.number() as usize);
+    say(b"\n");
+}
+
+fn say_octets(octets: &[u8]) {
+    let mut out = [0u8; 64];
+    let at = text::put_hex(&mut out, 0, octets);
+    say(text::part(&out, 0, at));
+    say(b"\n");
+}
+
+// APID 291 and count 5. The numbers fit, so the defaults are never taken.
+fn header() -> SpHeader {
+    let ApidResult::Ok(apid) = Apid::new(291) else {
+        return SpHeader::default();
+    };
+    let SeqCountResult::Ok(count) = SeqCount::new(5) else {
+        return SpHeader::default();
+    };
+    SpHeader::new_for_unseg_tc(apid, count, 0)
+}
+
+fn second() -> PusTcSecondaryHeader {
+    PusTcSecondaryHeader::new_simple(MessageTypeId::new(17, 1))
+}
+
+// ---- built
+
+fn by_new(data: &[u8]) -> PusTcCreatorResult {
+    PusTcCreator::new(header(), second(), data, CreatorConfig::default())
+}
+
+fn by_new_simple() -> PusTcCreatorResult {
+    let none = [0u8; 0];
+    PusTcCreator::new_simple(
+        header(),
+        MessageTypeId::new(17, 1),
+        &none,
+        CreatorConfig::default(),
+    )
+}
+
+fn by_builder() -> PusTcCreatorResult {
+    let none = [0u8; 0];
+    let h = header();
+    let typed = PusTcBuilder::new().with_message_type_id(MessageTypeId::new(17, 1));
+    let named = typed.with_apid(h.apid());
+    let counted = named.builder.with_sequence_count(h.seq_count());
+    counted.builder.build(&none)
+}
+
+// ---- written
+
+fn write(made: PusTcCreatorResult) {
+    let mut buf = [0u8; 13];
+    let none = [0u8; 0];
+    match made {
+        PusTcCreatorResult::Err(e) => say_refusal(e),
+        PusTcCreatorResult::Ok(creator) => {
+            creator.write_to_slice(&none, &mut buf);
+            say_octets(&buf);
+        }
+    }
+}
+
+fn reserve() {
+    let mut buf = [0u8; 13];
+    let held = PusTcCreatorWithReservedAppData::new(&mut buf, header(), second(), 0, true);
+    match held {
+        ReservedResult::Err(e) => say_refusal(e),
+        ReservedResult::Ok(reservation) => {
+            reservation.finalize(&mut buf);
+            say_octets(&buf);
+        }
+    }
+}
+
+fn say_size(r: SizeResult) {
+    match r {
+        SizeResult::Err(e) => say_refusal(e),
+        SizeResult::Ok(n) => {
+            say(b"octets ");
+            say_number(n);
+            say(b"\n");
+        }
+    }
+}
+
+// Without its checksum, for which there still must be room.
+fn write_no_crc(made: PusTcCreatorResult, buf: &mut [u8]) {
+    let none = [0u8; 0];
+    match made {
+        PusTcCreatorResult::Err(e) => say_refusal(e),
+        PusTcCreatorResult::Ok(creator) => say_size(creator.write_to_slice_no_crc(&none, buf)),
+    }
+}
+
+// ---- the largest packet
+
+fn say_length(made: PusTcCreatorResult) {
+    match made {
+        PusTcCreatorResult::Err(e) => say_refusal(e),
+        PusTcCreatorResult::Ok(creator) => {
+            say(b"length field ");
+            say_number(creator.data_len() as usize);
+            say(b"\n");
+        }
+    }
+}
+
+// ---- read and judged
+
+fn judge(octets: &[u8]) {
+    let verdict = strict::judge(octets);
+    match verdict {
+        Verdict::Refused(e) => say_refusal(e),
+        Verdict::Accepted(record) => {
+            let apid = record.apid();
+            say(b"accepted: APID ");
+            say_number(apid.value() as usize);
+            say(b", service ");
+            say_number(record.service_type_id() as usize);
+            say(b"\n");
+        }
+    }
+}
+
+fn main() {
+    let none = [0u8; 0];
+    write(by_new(&none));
+    write(by_new_simple());
+    write(by_builder());
+    reserve();
+    let mut twelve = [0u8; 12];
+    write_no_crc(by_new(&none), &mut twelve);
+    let mut thirteen = [255u8; 13];
+    write_no_crc(by_new(&none), &mut thirteen);
+    say_octets(&thirteen);
+    let most = [0u8; 65529];
+    say_length(by_new(&most));
+    let more = [0u8; 65530];
+    say_length(by_new(&more));
+    judge(b"\x19\x23\xC0\x05\x00\x06\x2F\x11\x01\x00\x00\x61\x6D");
+}

@@ -1,0 +1,58 @@
+-- `protocol::write::set` is safe and ends: each turn sets a builder.
+use Prim.Native.Nat.{_-_}
+use borrow.Author.Needs.{needs}
+use Rattle.protocol.proofs.write.set.Statement.{statement}
+use Rattle.protocol.proofs.write.set.Tie as tie
+
+abbrev Inv-loop : tie.InvT-loop
+Inv-loop setters n r₀ k₀ r k = Unit {0}
+
+abbrev μ-loop : tie.MeasureT-loop
+μ-loop setters n r₀ k₀ r k = n - k
+
+items-requires : tie.Need-items-requires Inv-loop μ-loop
+items-requires c κs = search needs
+
+builder-requires : tie.Need-builder-requires Inv-loop μ-loop
+builder-requires c κs = search needs
+
+drawn-requires : tie.Need-drawn-requires Inv-loop μ-loop
+drawn-requires c κs = search needs
+
+loop-holds : tie.Need-loop-holds Inv-loop μ-loop
+loop-holds c = search needs
+
+piece-requires : tie.Need-piece-requires Inv-loop μ-loop
+piece-requires c κs = search needs
+
+set-one-requires : tie.Need-set-one-requires Inv-loop μ-loop
+set-one-requires c κs = search needs
+
+add-k : tie.Need-add-k Inv-loop μ-loop
+add-k c = search needs
+
+loop-less : tie.Need-loop-less Inv-loop μ-loop
+loop-less c = search needs
+
+loop-again : tie.Need-loop-again Inv-loop μ-loop
+loop-again c = search needs
+
+returns : tie.Need-returns Inv-loop μ-loop
+returns c = search needs
+
+pub set-spec : {M : Type 1} → statement M
+set-spec =
+    tie.close
+    (tie.spec
+    Inv-loop
+    μ-loop
+    items-requires
+    builder-requires
+    drawn-requires
+    loop-holds
+    piece-requires
+    set-one-requires
+    add-k
+    loop-less
+    loop-again
+    returns)

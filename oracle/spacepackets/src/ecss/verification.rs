@@ -1,0 +1,1 @@
+//! Empty: this module of the crate is not at hand.

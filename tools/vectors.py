@@ -1,0 +1,331 @@
+#!/usr/bin/env python3
+"""Makes the request files of the gate, with the answers that tools/model.py gives.
+
+For each name below it writes NAME.requests and NAME.answers, a line each, into the given folder. The same lines come
+out at every run.
+
+    crc      the published vectors and random messages of every length from 0 to 300, of 4,096 and of 65,542 octets
+    header   the primary header read and written: each field at its edges and over them, buffers of 0 to 8 octets
+    write    creator, builder, reserved writer: the edges, edits, defaults, and two refusals at once in each pair
+    limits   the largest packet and one octet more
+    read     every short slice with every small length field in each way of reading; verifying; comparisons
+    strict   each refusal of the strict verdict, faults together, and captures for the splitter
+    grammar  lines that are no request, and their neighbours that are
+
+    tools/vectors.py FOLDER
+"""
+
+import itertools
+import pathlib
+import random
+import sys
+
+import model
+from model import Creator, Sec, Sp, be16, crc, text
+
+P5 = '1923C00500062F11010000616D'
+P6 = P5[:-2] + '6C'
+P5_SP, P5_SEC = '0,1,1,291,3,5,6', '2,15,17,1,0'
+MODES = list(model.WAYS)
+# For each field of the headers what it may hold at most, by the standard and in the record.
+SP_WIDTHS = (7, 1, 1, 2047, 3, 16383, 65535)
+SEC_WIDTHS = (2, 15, 255, 255, 65535)
+
+
+def row(fields):
+    return ','.join(map(str, fields))
+
+
+def zeros(count):
+    return text(bytes(count))
+
+
+def with_field(fields, at, value):
+    return [*fields[:at], value, *fields[at + 1:]]
+
+
+def edges(top):
+    return sorted({0, 1, top})
+
+
+def crc_requests(rng):
+    yield from (f'crc {message}' for message in ('-', '00', 'FF', 'FFFF'))
+    yield from (f'crc {message}' for message in ('0000', '000000', 'ABCDEF01', '1456F89A0001', text(b'123456789')))
+    yield from (f'crc {text(rng.randbytes(length))}' for length in (*range(301), 4096, 65542))
+
+
+def header_requests(rng):
+    def random_header():
+        return [rng.randint(0, top) for top in SP_WIDTHS]
+
+    yield f'sphwrite {P5_SP} {zeros(8)}'
+    for at, top in enumerate(SP_WIDTHS):
+        for value in edges(top):
+            for others in ([0] * 7, list(SP_WIDTHS), random_header(), random_header()):
+                fields = with_field(others, at, value)
+                yield f'sphwrite {row(fields)} {text(rng.randbytes(7))}'
+                yield f'sphread {text(Sp(*fields).octets() + rng.randbytes(rng.randint(0, 3)))}'
+    for length in range(9):
+        for _ in range(6):
+            yield f'sphwrite {row(random_header())} {text(rng.randbytes(length))}'
+            yield f'sphread {text(rng.randbytes(length))}'
+    over = {0: (8, 255), 3: (2048, 65535), 5: (16384, 65535)}       # place in the row, values over the width
+    for length in range(9):
+        for at, values in over.items():
+            for value in values:
+                yield f'sphwrite {row(with_field(random_header(), at, value))} {text(rng.randbytes(length))}'
+    for chosen in itertools.chain(itertools.combinations(over, 2), [tuple(over)]):
+        fields = random_header()
+        for at in chosen:
+            fields[at] = over[at][0]
+        yield f'sphwrite {row(fields)} {text(rng.randbytes(6))}'
+
+
+def write_requests(rng):
+    def headers():
+        return row(rng.randint(0, top) for top in SP_WIDTHS), row([2, *(rng.randint(0, t) for t in SEC_WIDTHS[1:])])
+
+    yield 'consts'
+    yield from (f'ack {number}' for number in (*range(18), 255))
+    # The packet that everything starts from, on each path; then no room, just enough and more than enough.
+    for length in (0, 10, 11, 12, 13, 14):
+        buffer = text(rng.randbytes(length))
+        yield f'create 0,0,0,291,3,5,0 {P5_SEC} 1 1 - - {buffer}'
+        yield f'create 0,0,0,291,3,5,0 {P5_SEC} 1 0 - - {buffer}'
+        yield f'create {P5_SP} {P5_SEC} 0 1 - - {buffer}'
+        yield f'build pid=1,1,291;psc=3,5;mtid=17,1 - {buffer}'
+        yield f'build apid=291;scount=5;service=17;subtype=1;ack=15;source=0;cksum=1 - {buffer}'
+        yield from (f'reserve {P5_SP} {P5_SEC} 0 {has} - {finish} {buffer}' for has in '01' for finish in 'fnc')
+    yield from (f'simple {apid} {service} 1' for apid in (0, 1, 291, 2047, 2048, 65535) for service in (0, 17, 255))
+    # Builder: the defaults, with and without its data, and each setter.
+    yield from (f'build {setters} 0102 {zeros(16)}' for setters in (
+        '-', 'data=1', 'data=1;data=1', 'cksum=0', 'cksum=0;data=1', 'pid=0,0,2047', 'pid=1,0,1', 'psc=0,16383',
+        'psc=1,0', 'scount=16383', 'mtid=255,255', 'mtid=1,2;service=3', 'mtid=1,2;subtype=3', 'service=255', 'subtype=255',
+        'source=65535', 'ack=0', 'ack=9', 'apid=2047', 'apid=1;apid=2', 'cksum=0;cksum=1', 'psc=2,7;scount=8',
+        'scount=8;psc=2,7', 'pid=0,0,7;apid=8', 'apid=8;pid=0,0,7', 'apid=2048', 'pid=1,1,2048', 'scount=16384',
+        'psc=3,16384', 'ack=16', 'ack=16;apid=2048', 'apid=2048;ack=16', 'apid=2048;apid=1'))
+    # Each field of both headers at its edges, with the length set and as it stands.
+    for at, top in enumerate(SP_WIDTHS):
+        for value, set_length in itertools.product(edges(top), '01'):
+            sp, sec = headers()
+            fields = row(with_field(sp.split(','), at, value))
+            yield f'create {fields} {sec} {set_length} 1 {text(rng.randbytes(3))} - {zeros(17)}'
+            yield f'reserve {fields} {sec} 3 1 {text(rng.randbytes(3))} f {text(rng.randbytes(17))}'
+    for at, top in list(enumerate(SEC_WIDTHS))[1:]:
+        for value in edges(top):
+            sp, sec = headers()
+            yield f'create {sp} {row(with_field(sec.split(","), at, value))} 1 1 0A - {zeros(14)}'
+    # Edits are written as they stand; an update sets the length afresh.
+    for edits in ('apid=7', 'scount=9', 'sflags=0', 'ack=0', 'source=513', 'pvn=5', 'type=0', 'shf=0', 'dlen=0',
+                  'dlen=65535', 'service=8', 'subtype=9', 'version=2', 'upd', 'dlen=1;upd', 'upd;dlen=1',
+                  'type=0;shf=0;upd', 'apid=1;apid=2', 'apid=2048', 'scount=16384', 'ack=16', 'pvn=8', 'pvn=8;upd',
+                  'pvn=8;pvn=1', 'version=0', 'version=1', 'version=1;version=2', 'version=1;upd', 'apid=2048;ack=16'):
+        for set_length in '01':
+            yield f'create 0,0,0,1,3,2,77 2,15,3,4,5 {set_length} 1 0A0B - {zeros(16)}'.replace(' - ', f' {edits} ')
+    # Data, buffer and checksum of many lengths; what the reserved writer finds in the buffer stays.
+    for _ in range(60):
+        sp, sec = headers()
+        data, has = rng.randbytes(rng.randint(0, 40)), rng.randint(0, 1)
+        buffer = rng.randbytes(max(0, 11 + len(data) + 2 * has + rng.randint(-3, 4)))
+        yield f'create {sp} {sec} {rng.randint(0, 1)} {has} {text(data)} - {text(buffer)}'
+        fill = data[:rng.randint(0, len(data))]
+        yield f'reserve {sp} {sec} {len(data)} {has} {text(fill)} {rng.choice("fnc")} {text(buffer)}'
+    yield from refusal_orders()
+
+
+def refusal_orders():
+    """Each fault that a creation or a reservation can have, alone and with each other."""
+    faults = ['pvn', 'apid', 'scount', 'ack', 'version', 'room']
+    for chosen in itertools.chain.from_iterable(itertools.combinations(faults, count) for count in (0, 1, 2)):
+        sp = row([8 * ('pvn' in chosen), 1, 1, 2048 * ('apid' in chosen), 3, 16384 * ('scount' in chosen), 0])
+        sec = row([1 if 'version' in chosen else 2, 16 if 'ack' in chosen else 15, 17, 1, 0])
+        buffer = zeros(12 if 'room' in chosen else 13)
+        yield f'create {sp} {sec} 1 1 - - {buffer}'
+        yield f'create {sp} {sec} 0 0 - - {buffer}'
+        yield f'reserve {sp} {sec} 0 1 - f {buffer}'
+        # The faults that an edit can bring after construction.
+        edits = ';'.join(e for e in ('pvn=8', 'version=0') if e.split('=')[0] in chosen) or '-'
+        yield f'create 0,1,1,1,3,0,0 2,15,17,1,0 1 1 - {edits} {buffer}'
+    for data_len in (65529, 65530, 65535, 65536, model.MACHINE - 13, model.MACHINE - 12, model.MACHINE):
+        for sp, sec in (P5_SP, P5_SEC), ('8,1,1,1,3,0,0', P5_SEC), (P5_SP, '0,15,17,1,0'):
+            yield f'reserve {sp} {sec} {data_len} 1 - f {zeros(13)}'
+
+
+def limits_requests(rng):
+    largest, data = f'create {P5_SP} {P5_SEC} 1 1', rng.randbytes(65530)
+    yield f'{largest} {text(data[1:])} - {zeros(65542)}'
+    yield f'{largest} {text(data)} - -'
+    yield f'reserve {P5_SP} 1,15,17,1,0 65530 1 - f {zeros(65543)}'       # 6 stands before 3
+
+
+def tc(data=b'', sp=(0, 1, 1, 291, 3, 5, 0), sec=(2, 15, 17, 1, 0)):
+    """The octets of a packet with its checksum."""
+    creator = Creator(Sp(*sp), Sec(*sec), 1, 1, data)
+    return creator.write(bytes(creator.total()), True)[1]
+
+
+def sealed(octets):
+    return octets + be16(crc(octets))
+
+
+def read_requests(rng):
+    cases = [P5, P6, P5[:20], '1923C00500032F11010000', '1923C00500042F11010000', '1923C00500052F1101000000']
+    yield from (f'read {mode} {octets}' for octets in cases for mode in MODES)
+    # Every slice length with every length field; where a checksum fits it is right at first, then damaged.
+    lines = {}
+    for length, field in itertools.product(range(17), range(14)):
+        packet = bytes.fromhex('1923C005') + be16(field) + rng.randbytes(field + 1)
+        packet = sealed(packet[:-2]) + rng.randbytes(16)
+        for mode in MODES:
+            lines[f'read {mode} {text(packet[:length])}'] = None
+            if mode in ('new', 'nt') and length >= field + 7 >= 13:
+                damaged = bytes([packet[0] ^ 1]) + packet[1:]
+                lines[f'read {mode} {text(damaged[:length])}'] = None
+    yield from lines
+    for data_len in (0, 1, 2, 17, 64):                    # all that a header can say, with octets after the total
+        for _ in range(4):
+            sp = [rng.randint(0, top) for top in SP_WIDTHS]
+            sec = [2, *(rng.randint(0, top) for top in SEC_WIDTHS[1:])]
+            packet = tc(rng.randbytes(data_len), sp, sec)
+            yield from (f'read {mode} {text(packet + rng.randbytes(rng.randint(0, 3)))}' for mode in MODES)
+    for nibble in range(16):                              # the PUS version is reported as C, whatever stands there
+        packet = sealed(bytes.fromhex('1923C0050006') + bytes([nibble << 4 | 5]) + bytes.fromhex('11010000'))
+        yield f'read new {text(packet)}'
+    for octets in ('-', '00', 'FFFF', '1D0F', P5, P6, P5 + '00', '29B1', text(b'123456789') + '29B1'):
+        yield f'verify {octets} 616D'
+        yield f'verify {octets} 0000'
+    yield from comparisons(rng)
+
+
+def comparisons(rng):
+    data = bytes.fromhex('0A0B0C')
+    packet, short = tc(data), text(tc(data)[:14])
+    same = f'{P5_SP[:-1]}9 {P5_SEC} 1 1 0A0B0C -'
+    for mode in MODES:
+        yield f'cmprc {mode} {text(packet)} {same}'
+        yield f'cmprc {mode} {text(packet + b"tail")} {same}'
+        yield f'cmprc {mode} {short} {same}'
+        yield f'cmprc {mode} {text(packet[:-1] + bytes([packet[-1] ^ 1]))} {same}'
+        # A reader without a checksum takes the last two octets as data.
+        yield f'cmprc {mode} {text(packet)} {P5_SP} {P5_SEC} 1 0 {text(packet[11:])} -'
+        yield f'cmprc {mode} {P5} {P5_SP} {P5_SEC} 1 1 - -'
+        # The creator's choice of checksum is no part of the comparison.
+        yield f'cmprc {mode} {P5} {P5_SP} {P5_SEC} 0 0 - -'
+        yield f'cmprc {mode} {P5} {P5_SP} {P5_SEC} 0 1 616D -'
+    for edits in ('pvn=1', 'type=0', 'shf=0', 'apid=0', 'sflags=0', 'scount=0', 'dlen=0', 'ack=0', 'service=0',
+                  'subtype=0', 'source=1', 'version=1', 'version=0', 'apid=0;apid=291', 'dlen=0;upd', 'apid=2048'):
+        yield f'cmprc noverify {text(packet)} {same[:-1]}{edits}'
+    for wrong in ('0A0B0D', '0A0B', '-'):
+        yield f'cmprc new {text(packet)} {same.replace("0A0B0C", wrong)}'
+    flip = [text(packet[:at] + bytes([packet[at] ^ 1]) + packet[at + 1:]) for at in range(len(packet))]
+    for mode, other in itertools.product(MODES, MODES):
+        yield f'cmprr {mode} {text(packet)} {other} {text(packet)}'
+        yield f'cmprr {mode} {text(packet)} {other} {text(packet + b"tail")}'
+        yield f'cmprr {mode} {text(packet)} {other} {P5}'
+        yield f'cmprr {mode} {text(packet)} {other} {flip[-1]}'
+        yield f'cmprr {mode} {short} {other} {text(packet)}'
+        yield f'cmprr {mode} {short} {other} {P5[:20]}'
+    yield from (f'cmprr nocrc {text(packet)} noverify {one}' for one in flip)
+
+
+def strict_requests(rng):
+    faults = {                                            # each makes a packet's first octets wrong in one way
+        'short': None, 'checksum': None, 'pvn': (0, 0x20), 'type': (0, 0x10), 'flag': (0, 0x08), 'nibble': (6, 0x10)}
+
+    def packet_with(chosen, data):
+        body = bytearray(tc(data)[:-2])
+        for fault in chosen:
+            if faults[fault]:
+                at, bits = faults[fault]
+                body[at] ^= bits
+        octets = bytearray(sealed(bytes(body)))
+        if 'checksum' in chosen:
+            octets[-1] ^= 1
+        return bytes(octets[:-1] if 'short' in chosen else octets)
+
+    yield f'strict {P5}'
+    yield f'strict {P6}'
+    for count, data in itertools.product((0, 1, 2, 3), (b'', b'\x01\x02')):
+        for chosen in itertools.combinations(faults, count):
+            yield f'strict {text(packet_with(chosen, data))}'
+    for first in range(0, 256, 8):                        # every version number, type and flag; every version nibble
+        yield f'strict {text(sealed(bytes([first | 1]) + bytes.fromhex("23C00500062F11010000")))}'
+    for nibble in range(16):
+        yield f'strict {text(sealed(bytes.fromhex("1923C0050006") + bytes([nibble << 4]) + bytes(4)))}'
+    for length, field in itertools.product(range(15), range(9)):
+        yield f'strict {text((bytes.fromhex("1923C005") + be16(field) + bytes(9))[:length])}'
+    for _ in range(20):                                   # what the verdict does not judge
+        sp = [0, 1, 1, *(rng.randint(0, top) for top in SP_WIDTHS[3:])]
+        sec = [2, *(rng.randint(0, top) for top in SEC_WIDTHS[1:])]
+        yield f'strict {text(tc(rng.randbytes(rng.randint(0, 20)), sp, sec) + rng.randbytes(rng.randint(0, 3)))}'
+    # Captures: P5, P6 and a tail; one packet of each fault; tails of every length.
+    yield f'split {P5}{P6}1923C0'
+    yield 'split -'
+    each = [packet_with([fault], b'\x07') for fault in faults if fault != 'short']
+    yield f'split {text(b"".join(each))}'
+    yield f'split {text(b"".join(each[::-1]))}{P5}'
+    yield f'split {P5}{"1923C0050000FF"}{P5}{"1923C00500042F11010000"}{P5}'       # totals of 7 and 11: number 2
+    for length in range(14):
+        yield f'split {P5}{P5[:2 * length]}'
+        yield f'split {text(bytes.fromhex(P5)[:length])}'
+    for _ in range(30):
+        packets = [packet_with(rng.sample(list(faults), rng.choice((0, 0, 1))), rng.randbytes(rng.randint(0, 5)))
+                   for _ in range(rng.randint(0, 8))]
+        yield f'split {text(b"".join(packets) + rng.randbytes(rng.randint(0, 8)))}'
+    yield f'split {text(bytes.fromhex(P5) * 40)}'
+
+
+def grammar_requests(_):
+    yield from (
+        '', ' ', '-', 'crc', 'crc ', ' crc 00', 'crc  00', 'crc 00 ', 'crc 00\r', 'crc\t00', 'CRC 00', 'crcs 00', 'crc 0',
+        'crc 000', 'crc ab', 'crc AB', 'crc 0x', 'crc -', 'crc --', 'crc -00', 'crc 00-', 'crc 00 00', 'crc 0G', 'crc :0',
+        'crc @0', 'crc /0', 'crc \xff\xff', 'verify 00 -', 'verify 00 000', 'verify 00 00000', 'verify 00 000g',
+        'verify 00 ABCD', 'verify 00 abcd', 'ack', 'ack -', 'ack -1', 'ack +1', 'ack 1.', 'ack :', 'ack /', 'ack 007',
+        'ack 255', 'ack 256', 'ack 1 1', 'ack 00000000000000000001', 'ack 000000000000000000001',
+        'ack 18446744073709551616', 'ack 36893488147419103233', 'consts -', 'consts ', 'read new', 'read new - -',
+        'read New -', 'read crc -', 'read noverif -', 'simple 1 2', 'simple 65536 1 1', 'simple 1 256 1', 'simple 1 1 256',
+        'simple 1 1 1 1', 'strict', 'strict 0', 'split', 'split 0', 'cmprr new - new')
+    for sp in ('0,1,1,291,3,5', '0,1,1,291,3,5,6,7', '0,1,1,291,3,5,', ',1,1,291,3,5,6', '256,1,1,291,3,5,6',
+               '0,2,1,291,3,5,6', '0,1,2,291,3,5,6', '0,01,1,291,3,5,6', '0,1,01,291,3,5,6', '0,1,1,65536,3,5,6',
+               '0,1,1,291,4,5,6', '0,1,1,291,03,5,6', '0,1,1,291,3,65536,6', '0,1,1,291,3,5,65536', '-',
+               '000,1,1,0291,3,005,00006'):
+        yield f'sphwrite {sp} 00000000000000'
+        yield f'reserve {sp} {P5_SEC} 0 1 - f -'
+    for sec in ('2,15,17,1', '2,15,17,1,0,0', '3,15,17,1,0', '02,15,17,1,0', '2,256,17,1,0', '2,15,256,1,0',
+                '2,15,17,256,0', '2,15,17,1,65536', '2,15,17,1,-', '2,0015,017,01,00'):
+        yield f'create {P5_SP} {sec} 1 1 - - -'
+    for rest in ('2 1 - - -', '1 2 - - -', '01 1 - - -', '1 1 - -', '1 1 - - - -', '1 1 0 - -', '1 1 - - 0'):
+        yield f'create {P5_SP} {P5_SEC} {rest}'
+    for edits in ('upd', 'upd=', 'upd=1', 'upd;', ';upd', 'upd;;upd', 'apid', 'apid=', 'apid=-1', 'apid=65536', 'apid=1,2',
+                  'sflags=4', 'sflags=01', 'type=2', 'shf=2', 'version=3', 'dlen=65536', 'pvn=256', 'seq=1', 'Apid=1',
+                  'apid=1=2', 'apid= 1', '-;upd', 'apid=9999;version=9', 'source=00007'):
+        yield f'create {P5_SP} {P5_SEC} 1 1 - {edits} -'
+    for setters in ('data=0', 'data=', 'data', 'data=01', 'pid=1,1', 'pid=1,1,1,1', 'pid=2,1,1', 'pid=1,2,1', 'psc=4,1',
+                    'psc=3', 'mtid=1', 'mtid=256,1', 'mtid=1,256', 'cksum=2', 'cksum', 'upd', 'dlen=1', 'source=65536',
+                    'ack=256', 'apid=9999;ack=256', ';'):
+        yield f'build {setters} - -'
+    for rest in ('0 1 0A f -', '1 1 0A f -', '1 1 0A0B f -', '0 1 - x -', '0 1 - fn -', '0 1 - F -', '-1 1 - f -',
+                 '18446744073709551615 1 - f -', '18446744073709551616 1 - f -', '018446744073709551615 1 - f -'):
+        yield f'reserve {P5_SP} {P5_SEC} {rest}'
+    yield f'reserve 8,1,1,291,3,5,6 {P5_SEC} 0 1 0A f -'
+    yield f'cmprc new - {P5_SP} {P5_SEC} 1 1 - apid=65536'
+
+
+FILES = {'crc': crc_requests, 'header': header_requests, 'write': write_requests, 'limits': limits_requests,
+         'read': read_requests, 'strict': strict_requests, 'grammar': grammar_requests}
+
+
+def main():
+    if len(sys.argv) != 2:
+        sys.exit(__doc__)
+    folder = pathlib.Path(sys.argv[1])
+    folder.mkdir(parents=True, exist_ok=True)
+    for name, requests in FILES.items():
+        lines = list(requests(random.Random(name)))
+        for ending, content in ('requests', lines), ('answers', map(model.answer, lines)):
+            (folder / f'{name}.{ending}').write_bytes(''.join(f'{line}\n' for line in content).encode('latin-1'))
+        print(f'{name}: {len(lines)} requests')
+
+
+if __name__ == '__main__':
+    main()
