@@ -8,3 +8,7 @@ pub mod Parts
 pub mod Division
 pub mod Remainder
 pub mod Determined
+mod Basis
+mod Rows
+mod Fold
+mod Word

@@ -13,7 +13,7 @@ use Rattle.crc.proofs.Octet.{zeros-⊕, low-half, octet-in}
 use Rattle.crc.proofs.Zeros.{Clear, none, next, run-clear, run-clear-zero, run-lt, crcOf-lt}
 
 -- two octets are added to the whole register
-two-in : (r hi lo : ℕ) → hi < 256 → lo < 256 →
+pub two-in : (r hi lo : ℕ) → hi < 256 → lo < 256 →
     run (run r (octetBits hi)) (octetBits lo) ≡ run (run (r ⊕ (hi * 256 + lo)) (octetBits 0)) (octetBits 0)
 two-in r hi lo hh hl =
     octet-in (run r (octetBits hi)) lo hl
@@ -26,7 +26,7 @@ clear8 : Clear (octetBits 0)
 unfolding octetBits bit
 clear8 = next (next (next (next (next (next (next (next none)))))))
 
-two-octets : (r hi lo : ℕ) → crcFrom r (hi ∷ lo ∷ []) ≡ run (run r (octetBits hi)) (octetBits lo)
+pub two-octets : (r hi lo : ℕ) → crcFrom r (hi ∷ lo ∷ []) ≡ run (run r (octetBits hi)) (octetBits lo)
 two-octets r hi lo =
     crcFrom-cons r hi (lo ∷ []) ∙ crcFrom-cons (run r (octetBits hi)) lo [] ∙ crcFrom-nil (run (run r (octetBits hi)) (octetBits lo))
 

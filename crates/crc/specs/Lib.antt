@@ -3,3 +3,5 @@ pub mod Error
 pub mod Division
 pub mod Digest
 pub mod Table
+pub mod Word
+pub mod Folded

@@ -1,5 +1,8 @@
 // The packet error control of ECSS-E-ST-70-41C, annex B: the checksum that the Rust takes from its crate `crc` as
 // CRC_16_IBM_3740, with a table of 256 entries and with none. No call refuses anything.
+mod folded; // folded.rt: long rows of octets, by folding
+mod words; // words.rt: eight, four and two octets at once
+
 ghost use mathlib.Core.Path.{_≡_};
 ghost use mathlib.Core.List.{[]};
 ghost use Rattle.crc.specs.Crc.{run, octetBits, crcFrom, crcOf};
@@ -74,17 +77,14 @@ fn table_from(register: u16, data: &[u8]) -> u16
     r
 }
 
-// The register after the octets, with no table: every table-free call comes here.
+// The register after the octets, with no table: every table-free call comes here. Each function below has one caller,
+// so that the compiler makes one piece of them.
 fn no_table_from(register: u16, data: &[u8]) -> u16
     ensures { λ r. ⌜ r ≡ crcFrom register (now («data» .entry)) ⌝ }
 {
-    let mut r = register;
-    let mut i = 0;
-    while i < data.len() {
-        r = no_table_octet(r, data[i]);
-        i += 1;
-    }
-    r
+    let t = folded::front(register, data);
+    let at = t.at;
+    words::stepped(t.register, data, at)
 }
 
 // The register after one octet: its low half moves up, and the table has what the high half and the octet leave.
