@@ -11,7 +11,7 @@ use Rattle.ecss.specs.Write.{lengthField}
 use Rattle.ecss.specs.declared.PusVersion.the-variants.{PusC}
 use Rattle.tc_read.specs.Read.{readOf, checkedRead}
 use Rattle.tc_read.specs.declared.PusTcRecord.{PusTcRecord}
-use Rattle.tc_read.specs.declared.Crc16.the-variants.{Some, None}
+use Rattle.ecss.specs.declared.Crc16.the-variants.{Some, None}
 use Rattle.space_packet.specs.declared.PacketType.the-variants.{Tc}
 use Rattle.space_packet.specs.declared.SequenceFlags.the-variants.{Unsegmented}
 use Rattle.space_packet.specs.declared.SpacePacketHeader.{SpacePacketHeader}

@@ -13,7 +13,7 @@ use Rattle.ecss.specs.declared.PusVersion.the-variants.{PusC}
 use Rattle.tc_header.specs.Header.{pusC}
 use Rattle.tc_header.specs.declared.PusTcSecondaryHeader.{PusTcSecondaryHeader}
 use Rattle.tc_read.specs.declared.PusTcRecord.{PusTcRecord}
-use Rattle.tc_read.specs.declared.Crc16.the-variants.{Some}
+use Rattle.ecss.specs.declared.Crc16.the-variants.{Some}
 
 -- the headers h and x, and the application data d
 abbrev pub telecommand : SpacePacketHeader → PusTcSecondaryHeader → List ℕ → Packet PusTcSecondaryHeader

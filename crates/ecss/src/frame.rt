@@ -57,7 +57,7 @@ fn front(s: &[u8], n: usize) -> &[u8]
 }
 
 // All reader checks with checksum.
-pub fn checked(s: &[u8], size: u8, table: bool) -> SizeResult
+pub fn checked(s: &[u8], size: u8) -> SizeResult
     ensures { λ r. ⌜ sizeAnswer r ≡ checkedOf (6 + size) (now (s .entry)) ⌝ }
 {
     let f = frame_of(s, size, true);
@@ -65,7 +65,7 @@ pub fn checked(s: &[u8], size: u8, table: bool) -> SizeResult
         SizeResult::Err(e) => SizeResult::Err(e),
         SizeResult::Ok(total) => {
             let stored = space_packet::word_at(s, total - 2);
-            let v = crate::verify(front(s, total), stored, table);
+            let v = crate::verify_crc16_ccitt_false_from_raw_to_pus_error(front(s, total), stored);
             match v {
                 CheckResult::Err(e) => SizeResult::Err(e),
                 CheckResult::Ok => SizeResult::Ok(total),
@@ -213,24 +213,24 @@ pub fn put_data(size: u8, data: &[u8], buf: &mut [u8]) -> SizeResult
 }
 
 // Writes the checksum over the first `end` octets behind them.
-pub(crate) fn put_checksum(buf: &mut [u8], end: usize, table: bool)
+pub(crate) fn put_checksum(buf: &mut [u8], end: usize)
     requires { ⌜ end + 2 ≤ length (now buf) ⌝ }
     ensures { λ _. ⌜ now (buf .exit) ≡ sealed (take end (now (buf .entry))) ++ drop (end + 2) (now (buf .entry)) ⌝ }
 {
-    let w = crate::checksum(front(buf, end), table);
+    let w = crc::crc_ccitt_false_no_table(front(buf, end));
     buf[end] = (w / 256) as u8;
     buf[end + 1] = (w % 256) as u8;
 }
 
 // Writes the checksum over the headers and `data_len` octets of data behind them.
-pub fn seal(size: u8, data_len: usize, buf: &mut [u8], table: bool) -> SizeResult
+pub fn seal(size: u8, data_len: usize, buf: &mut [u8]) -> SizeResult
     ensures { λ r. ⌜ Wrote (writeIn (6 + size) true «data_len» (length (now (buf .entry)))) (sealed (take (6 + size + «data_len») (now (buf .entry)))) (now (buf .entry)) r (now (buf .exit)) ⌝ }
 {
     let room = room_for(size, data_len, true, buf.len());
     match room {
         SizeResult::Err(e) => SizeResult::Err(e),
         SizeResult::Ok(total) => {
-            put_checksum(buf, total - 2, table);
+            put_checksum(buf, total - 2);
             SizeResult::Ok(total)
         }
     }

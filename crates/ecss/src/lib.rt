@@ -86,30 +86,21 @@ impl CreatorConfig {
     }
 }
 
-// The checksum, by the table or without one: the same number.
-pub(crate) fn checksum(data: &[u8], table: bool) -> u16
-    ensures { λ r. ⌜ r ≡ crcOf (now («data» .entry)) ⌝ }
-{
-    if table {
-        return crc::crc_ccitt_false(data);
-    }
-    crc::crc_ccitt_false_no_table(data)
+// The Rust's Option<u16>: the checksum, where there is one.
+pub enum Crc16 {
+    Some(u16),
+    None,
 }
 
-pub(crate) fn verify(raw_data: &[u8], crc16: u16, table: bool) -> CheckResult
-    ensures { λ r. ⌜ checkAnswer r ≡ verified (now («raw_data» .entry)) crc16 ⌝ }
-{
-    if checksum(raw_data, table) == 0 {
-        return CheckResult::Ok;
-    }
-    CheckResult::Err(PusError::ChecksumFailure(crc16))
-}
-
-// 4, with the number handed in, where the octets do not verify.
+// 4, with the number handed in, where the octets do not verify. Both names run with no table, the faster at every length of a
+// packet.
 pub fn verify_crc16_ccitt_false_from_raw_to_pus_error(raw_data: &[u8], crc16: u16) -> CheckResult
     ensures { λ r. ⌜ checkAnswer r ≡ verified (now («raw_data» .entry)) crc16 ⌝ }
 {
-    verify(raw_data, crc16, true)
+    if crc::crc_ccitt_false_no_table(raw_data) == 0 {
+        return CheckResult::Ok;
+    }
+    CheckResult::Err(PusError::ChecksumFailure(crc16))
 }
 
 pub fn verify_crc16_ccitt_false_from_raw_to_pus_error_no_table(
@@ -118,19 +109,19 @@ pub fn verify_crc16_ccitt_false_from_raw_to_pus_error_no_table(
 ) -> CheckResult
     ensures { λ r. ⌜ checkAnswer r ≡ verified (now («raw_data» .entry)) crc16 ⌝ }
 {
-    verify(raw_data, crc16, false)
+    verify_crc16_ccitt_false_from_raw_to_pus_error(raw_data, crc16)
 }
 
 pub fn verify_crc16_ccitt_false_from_raw(raw_data: &[u8]) -> bool
     ensures { λ r. ⌜ r ≡ verifies (now («raw_data» .entry)) ⌝ }
 {
-    checksum(raw_data, true) == 0
+    crc::crc_ccitt_false_no_table(raw_data) == 0
 }
 
 pub fn verify_crc16_ccitt_false_from_raw_no_table(raw_data: &[u8]) -> bool
     ensures { λ r. ⌜ r ≡ verifies (now («raw_data» .entry)) ⌝ }
 {
-    checksum(raw_data, false) == 0
+    verify_crc16_ccitt_false_from_raw(raw_data)
 }
 
 // The strict checks of a telecommand of a PUS version, in their order; `octet` is the first of the secondary header.

@@ -152,7 +152,7 @@ impl Reservation {
     }
 
     // Writes the checksum, where there is one, over what the buffer holds; the answer is the total.
-    pub fn finalize(self, size: u8, buf: &mut [u8], table: bool) -> SizeResult
+    pub fn finalize(self, size: u8, buf: &mut [u8]) -> SizeResult
         ensures { λ r. ⌜ Wrote (finishIn (6 + size) self (length (now (buf .entry)))) (finished self (now (buf .entry))) (now (buf .entry)) r (now (buf .exit)) ⌝ }
     {
         let c = self.check_in(size, buf.len());
@@ -160,7 +160,7 @@ impl Reservation {
             CheckResult::Err(e) => SizeResult::Err(e),
             CheckResult::Ok => {
                 if self.has_checksum {
-                    frame::put_checksum(buf, self.total - 2, table);
+                    frame::put_checksum(buf, self.total - 2);
                 }
                 SizeResult::Ok(self.total)
             }

@@ -10,7 +10,7 @@ use Rattle.space_packet.proofs.Answers.{by-inverse, resultOf, error-back}
 use Rattle.space_packet.proofs.Determined.{Determines, from-inj, check-inj, plain, Writes, writes}
 use Rattle.ecss.specs.declared.CreatorConfig.{CreatorConfig}
 use Rattle.tc_header.specs.declared.PusTcSecondaryHeader.{PusTcSecondaryHeader}
-use Rattle.ecss_tc.specs.Creator.{contentFor, octetsFor, newOf, creatorAnswer, creatorKept, updated, ownChecksum, crcAnswer, writeOf, plainOf}
+use Rattle.ecss_tc.specs.Creator.{contentFor, octetsFor, newOf, creatorAnswer, creatorKept, updated, ownChecksum, crcAnswer, checksumOf, checksumAnswer, writeOf, plainOf}
 use Rattle.ecss_tc.specs.Reserved.{reserveOf, reservedAnswer, headFor, reservedLeft}
 use Rattle.ecss_tc.specs.Builder.{builderKept}
 use Rattle.ecss_tc.specs.declared.PusTcCreator.{PusTcCreator}
@@ -19,6 +19,8 @@ use Rattle.ecss_tc.specs.declared.PusTcCreatorResult.{PusTcCreatorResult
 use Rattle.ecss_tc.specs.declared.PusTcCreatorResult.the-variants as T
 use Rattle.ecss_tc.specs.declared.CrcResult.{CrcResult}
 use Rattle.ecss_tc.specs.declared.CrcResult.the-variants as C
+use Rattle.ecss_tc.specs.declared.ChecksumResult.{ChecksumResult}
+use Rattle.ecss_tc.specs.declared.ChecksumResult.the-variants as K
 use Rattle.ecss_tc.specs.declared.ReservedResult.{ReservedResult}
 use Rattle.ecss_tc.specs.declared.ReservedResult.the-variants as R
 use Rattle.ecss_tc.specs.declared.PusTcBuilder.{PusTcBuilder}
@@ -35,6 +37,11 @@ crc-back : (r : CrcResult) → resultOf C.Ok C.Err (crcAnswer r) ≡ r
 unfolding resultOf
 crc-back (C.Ok n) = refl
 crc-back (C.Err e) = ap C.Err (error-back e)
+
+checksum-back : (r : ChecksumResult) → resultOf K.Ok K.Err (checksumAnswer r) ≡ r
+unfolding resultOf
+checksum-back (K.Ok n) = refl
+checksum-back (K.Err e) = ap K.Err (error-back e)
 
 reserved-back : (r : ReservedResult) → resultOf R.Ok R.Err (reservedAnswer r) ≡ r
 unfolding resultOf
@@ -73,6 +80,9 @@ update-ccsds-data-len t n = from-inj creatorKept creator-kept-inj _
 -- both, with the table and with none
 pub calc-own-crc16 : (t : PusTcCreator) (d : List ℕ) → Determines crcAnswer (ownChecksum t d)
 calc-own-crc16 t d = from-inj crcAnswer (by-inverse crcAnswer (resultOf C.Ok C.Err) crc-back) _
+
+pub checksum : (t : PusTcCreator) (d : List ℕ) → Determines checksumAnswer (checksumOf t d)
+checksum t d = from-inj checksumAnswer (by-inverse checksumAnswer (resultOf K.Ok K.Err) checksum-back) _
 
 -- write_to_slice, write_to_slice_crc_no_table and write_to_slice_checksum_no_table
 pub write-to-slice : (t : PusTcCreator) (d s : List ℕ) → Writes (writeOf t (length d) (length s)) (octetsFor t d) s

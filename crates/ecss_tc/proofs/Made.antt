@@ -2,6 +2,7 @@
 use Prim.Native.Nat.{ℕ, _-_}
 use mathlib.Core.Path.{_≡_, sym, ap, _∙_}
 use mathlib.Core.Bool.{Bool, true, false, _&&_}
+use mathlib.Core.List.{List}
 use Rattle.space_packet.specs.Bits.{pick}
 use Rattle.space_packet.specs.Answer.{Numbers, Answer, Passed, Kept, gives, refuses, _then_, setIf}
 use Rattle.space_packet.specs.Header.{headerKept}
@@ -11,7 +12,8 @@ use Rattle.space_packet.proofs.Answers.{gives-inj, refuses-inj, never, then-giv
 use Rattle.ecss.specs.Write.{totalFor, lengthOf, limited, lengthField}
 use Rattle.ecss.proofs.Frames.{length-total}
 use Rattle.tc_header.specs.declared.PusTcSecondaryHeader.{PusTcSecondaryHeader}
-use Rattle.ecss_tc.specs.Creator.{creatorOf, asCommand, creatorCheck, withLength, keptIn, withHeader, lengthSet, created, updated}
+use Rattle.ecss.specs.declared.Crc16.the-variants.{Some, None}
+use Rattle.ecss_tc.specs.Creator.{ownChecksum, checksumOf, creatorOf, asCommand, creatorCheck, withLength, keptIn, withHeader, lengthSet, created, updated}
 use Rattle.ecss_tc.specs.declared.PusTcCreator.{PusTcCreator}
 
 -- what only turns a value is refused where that value is
@@ -78,3 +80,12 @@ and-stop a b p = ap (λ (x : Bool). x && b) p
 
 pub and-go : (a b : Bool) → a ≡ true → a && b ≡ b
 and-go a b p = ap (λ (x : Bool). x && b) p
+
+-- the checksum that is written, by the choice of one
+pub checksum-none : (t : PusTcCreator) (d : List ℕ) → t .«has_checksum» ≡ false → checksumOf t d ≡ gives None
+unfolding checksumOf
+checksum-none t d e = ap (λ (b : Bool). pick b (ownChecksum t d then λ n. gives (Some n)) (gives None)) e
+
+pub checksum-own : (t : PusTcCreator) (d : List ℕ) → t .«has_checksum» ≡ true → checksumOf t d ≡ (ownChecksum t d then λ n. gives (Some n))
+unfolding checksumOf
+checksum-own t d e = ap (λ (b : Bool). pick b (ownChecksum t d then λ n. gives (Some n)) (gives None)) e

@@ -14,6 +14,8 @@ use Rattle.ecss.specs.Frame.{trailer, closed, sameOctets}
 use Rattle.ecss.specs.Write.{totalFor, lengthField, writeIn}
 use Rattle.ecss.specs.Codec.{Packet, contentOf}
 use Rattle.ecss.specs.declared.CreatorConfig.{CreatorConfig}
+use Rattle.ecss.specs.declared.Crc16.{Crc16}
+use Rattle.ecss.specs.declared.Crc16.the-variants.{Some, None}
 use Rattle.tc_header.specs.Header.{ackCheck, versionCheck, pusC, sameSec}
 use Rattle.tc_header.specs.declared.PusTcSecondaryHeader.{PusTcSecondaryHeader}
 use Rattle.ecss_tc.specs.declared.PusTcCreator.{PusTcCreator}
@@ -22,6 +24,8 @@ use Rattle.ecss_tc.specs.declared.PusTcCreatorResult.{PusTcCreatorResult
 use Rattle.ecss_tc.specs.declared.PusTcCreatorResult.the-variants as R
 use Rattle.ecss_tc.specs.declared.CrcResult.{CrcResult}
 use Rattle.ecss_tc.specs.declared.CrcResult.the-variants as C
+use Rattle.ecss_tc.specs.declared.ChecksumResult.{ChecksumResult}
+use Rattle.ecss_tc.specs.declared.ChecksumResult.the-variants as K
 
 abbrev pub creatorOf : SpacePacketHeader → PusTcSecondaryHeader → Bool → PusTcCreator
 creatorOf h x b = record { «sp_header» = h; «sec_header» = x; «has_checksum» = b }
@@ -97,6 +101,14 @@ ownChecksum t d =
 abbrev pub crcAnswer : CrcResult → Answer ℕ
 crcAnswer (C.Ok n) = gives n
 crcAnswer (C.Err e) = refuses (numbersOf e)
+
+-- the checksum that is written: none, or its own
+unfoldable pub checksumOf : PusTcCreator → List ℕ → Answer Crc16
+checksumOf t d = pick (t .«has_checksum») (ownChecksum t d then λ n. gives (Some n)) (gives None)
+
+abbrev pub checksumAnswer : ChecksumResult → Answer Crc16
+checksumAnswer (K.Ok c) = gives c
+checksumAnswer (K.Err e) = refuses (numbersOf e)
 
 -- writing into a buffer of m octets: 7, 6 for the machine size, 1, 3
 unfoldable pub writeOf : PusTcCreator → ℕ → ℕ → Answer ℕ

@@ -4,10 +4,11 @@ ghost use mathlib.Core.Path.{_≡_};
 ghost use mathlib.Core.Bool.{true};
 ghost use mathlib.Core.List.{[], _++_};
 ghost use Prim.Native.Nat.{_+_, _≤_};
+ghost use lib.Dec.{eqb};
 ghost use lib.ListN.{length, drop};
 ghost use Rattle.space_packet.specs.Answer.{gives, setIf, checkAnswer, sizeAnswer};
-ghost use Rattle.space_packet.specs.Fields.{apidCheck, countCheck, idWithApid};
-ghost use Rattle.space_packet.specs.Header.{withId, withPsc, pscFrom, idFrom};
+ghost use Rattle.space_packet.specs.Fields.{apidCheck, countCheck, idWithApid, typeNumber, idRaw, pscRaw};
+ghost use Rattle.space_packet.specs.Header.{totalOf, withId, withPsc, pscFrom, idFrom};
 ghost use Rattle.space_packet.specs.Wrote.{Wrote};
 ghost use Rattle.space_packet.specs.declared.PacketType.the-variants.{Tc};
 ghost use Rattle.ecss.specs.Version.{messageType};
@@ -15,9 +16,10 @@ ghost use Rattle.ecss.specs.Write.{lengthOf};
 ghost use Rattle.ecss.specs.Reserve.{dataLenOf, boundsOf, boundsAnswer, within, beginsAt, fillIn, filledBy, finishIn, finished, plainIn};
 ghost use Rattle.ecss.specs.declared.PusVersion.the-variants.{PusC};
 ghost use Rattle.tc_header.specs.Header.{ackCheck, ackOf, secFrom, versionCheck};
-ghost use Rattle.ecss_tc.specs.Creator.{creatorOf, contentFor, octetsFor, withLength, asCommand, creatorCheck, lengthSet, newOf, creatorAnswer, keptIn, creatorKept, withHeader, withSec, updated, ownChecksum, crcAnswer, writeOf, plainOf, sameCreator};
+ghost use Rattle.ecss_tc.specs.Creator.{creatorOf, contentFor, octetsFor, withLength, asCommand, creatorCheck, lengthSet, newOf, creatorAnswer, keptIn, creatorKept, withHeader, withSec, updated, ownChecksum, crcAnswer, checksumOf, checksumAnswer, writeOf, plainOf, sameCreator};
 ghost use Rattle.ecss_tc.specs.Reserved.{reserveOf, reservedAnswer, headFor, reservedLeft};
 ghost use Rattle.ecss_tc.specs.Builder.{builderOf, defaultBuilder, builderKept, builderWithHeader, builderWithSec};
+use ecss::Crc16;
 use ecss::CreatorConfig;
 use ecss::MessageTypeId;
 use ecss::PusError;
@@ -64,6 +66,11 @@ pub struct PusTcCreatorSet {
 
 pub enum CrcResult {
     Ok(u16),
+    Err(PusError),
+}
+
+pub enum ChecksumResult {
+    Ok(Crc16),
     Err(PusError),
 }
 
@@ -279,6 +286,69 @@ impl PusTcCreator {
         h.data_len
     }
 
+    pub fn packet_len(self) -> usize
+        ensures { λ r. ⌜ r ≡ totalOf (self .«sp_header») ⌝ }
+    {
+        let h = self.sp_header;
+        h.packet_len()
+    }
+
+    pub fn packet_id_raw(self) -> u16
+        ensures { λ r. ⌜ r ≡ idRaw (self .«sp_header» .«packet_id») ⌝ }
+    {
+        let h = self.sp_header;
+        h.packet_id_raw()
+    }
+
+    pub fn psc_raw(self) -> u16
+        ensures { λ r. ⌜ r ≡ pscRaw (self .«sp_header» .psc) ⌝ }
+    {
+        let h = self.sp_header;
+        h.psc_raw()
+    }
+
+    pub fn packet_type(self) -> PacketType
+        ensures { λ r. ⌜ r ≡ self .«sp_header» .«packet_id» .«packet_type» ⌝ }
+    {
+        let h = self.sp_header;
+        h.packet_type()
+    }
+
+    pub fn is_tm(self) -> bool
+        ensures { λ r. ⌜ r ≡ eqb (typeNumber (self .«sp_header» .«packet_id» .«packet_type»)) 0 ⌝ }
+    {
+        let h = self.sp_header;
+        h.is_tm()
+    }
+
+    pub fn is_tc(self) -> bool
+        ensures { λ r. ⌜ r ≡ eqb (typeNumber (self .«sp_header» .«packet_id» .«packet_type»)) 1 ⌝ }
+    {
+        let h = self.sp_header;
+        h.is_tc()
+    }
+
+    pub fn sec_header_flag(self) -> bool
+        ensures { λ r. ⌜ r ≡ self .«sp_header» .«packet_id» .«sec_header_flag» ⌝ }
+    {
+        let h = self.sp_header;
+        h.sec_header_flag()
+    }
+
+    pub fn seq_count(self) -> SeqCount
+        ensures { λ r. ⌜ r ≡ self .«sp_header» .psc .«seq_count» ⌝ }
+    {
+        let h = self.sp_header;
+        h.seq_count()
+    }
+
+    pub fn sequence_flags(self) -> SequenceFlags
+        ensures { λ r. ⌜ r ≡ self .«sp_header» .psc .«seq_flags» ⌝ }
+    {
+        let h = self.sp_header;
+        h.sequence_flags()
+    }
+
     // ---- edits, which are written as they stand; an APID, a count and flags over their width are refused with 7
 
     // Replaces the primary header.
@@ -429,18 +499,6 @@ impl PusTcCreator {
     pub fn calc_own_crc16(self, app_data: &[u8]) -> CrcResult
         ensures { λ r. ⌜ crcAnswer r ≡ ownChecksum self (now («app_data» .entry)) ⌝ }
     {
-        self.own_crc16(app_data, true)
-    }
-
-    pub fn calc_own_crc16_no_table(self, app_data: &[u8]) -> CrcResult
-        ensures { λ r. ⌜ crcAnswer r ≡ ownChecksum self (now («app_data» .entry)) ⌝ }
-    {
-        self.own_crc16(app_data, false)
-    }
-
-    fn own_crc16(self, app_data: &[u8], table: bool) -> CrcResult
-        ensures { λ r. ⌜ crcAnswer r ≡ ownChecksum self (now («app_data» .entry)) ⌝ }
-    {
         let h = self.sp_header;
         let x = self.sec_header;
         let c = check(h, x);
@@ -454,9 +512,6 @@ impl PusTcCreator {
                         let mut head = [0u8; 11];
                         put_head(h, x, &mut head);
                         let d = crc::Digest::new();
-                        if table {
-                            return CrcResult::Ok(d.update(&head).update(app_data).finalize());
-                        }
                         CrcResult::Ok(
                             d.update_no_table(&head)
                                 .update_no_table(app_data)
@@ -468,20 +523,29 @@ impl PusTcCreator {
         }
     }
 
-    // Writes the packet over the first octets of the buffer and answers how many; 7, 6, 1, 3.
+    pub fn calc_own_crc16_no_table(self, app_data: &[u8]) -> CrcResult
+        ensures { λ r. ⌜ crcAnswer r ≡ ownChecksum self (now («app_data» .entry)) ⌝ }
+    {
+        self.calc_own_crc16(app_data)
+    }
+
+    // The name of the trait PusPacket: none where no checksum is written, and otherwise the packet's own; 7, 3.
+    pub fn checksum(self, app_data: &[u8]) -> ChecksumResult
+        ensures { λ r. ⌜ checksumAnswer r ≡ checksumOf self (now («app_data» .entry)) ⌝ }
+    {
+        if !self.has_checksum {
+            return ChecksumResult::Ok(Crc16::None);
+        }
+        let own = self.calc_own_crc16(app_data);
+        match own {
+            CrcResult::Err(e) => ChecksumResult::Err(e),
+            CrcResult::Ok(crc16) => ChecksumResult::Ok(Crc16::Some(crc16)),
+        }
+    }
+
+    // Writes the packet over the first octets of the buffer and answers how many; 7, 6, 1, 3. No write takes a table for its
+    // checksum, whatever its name: without one is faster at every length of a packet.
     pub fn write_to_slice(self, app_data: &[u8], buf: &mut [u8]) -> SizeResult
-        ensures { λ r. ⌜ Wrote (writeOf self (length (now («app_data» .entry))) (length (now (buf .entry)))) (octetsFor self (now («app_data» .entry))) (now (buf .entry)) r (now (buf .exit)) ⌝ }
-    {
-        self.write(app_data, buf, true)
-    }
-
-    pub fn write_to_slice_crc_no_table(self, app_data: &[u8], buf: &mut [u8]) -> SizeResult
-        ensures { λ r. ⌜ Wrote (writeOf self (length (now («app_data» .entry))) (length (now (buf .entry)))) (octetsFor self (now («app_data» .entry))) (now (buf .entry)) r (now (buf .exit)) ⌝ }
-    {
-        self.write(app_data, buf, false)
-    }
-
-    fn write(self, app_data: &[u8], buf: &mut [u8], table: bool) -> SizeResult
         ensures { λ r. ⌜ Wrote (writeOf self (length (now («app_data» .entry))) (length (now (buf .entry)))) (octetsFor self (now («app_data» .entry))) (now (buf .entry)) r (now (buf .exit)) ⌝ }
     {
         let written = self.write_to_slice_no_crc(app_data, buf);
@@ -489,11 +553,17 @@ impl PusTcCreator {
             SizeResult::Err(e) => SizeResult::Err(e),
             SizeResult::Ok(end) => {
                 if self.has_checksum {
-                    return frame::seal(5, app_data.len(), buf, table);
+                    return frame::seal(5, app_data.len(), buf);
                 }
                 SizeResult::Ok(end)
             }
         }
+    }
+
+    pub fn write_to_slice_crc_no_table(self, app_data: &[u8], buf: &mut [u8]) -> SizeResult
+        ensures { λ r. ⌜ Wrote (writeOf self (length (now («app_data» .entry))) (length (now (buf .entry)))) (octetsFor self (now («app_data» .entry))) (now (buf .entry)) r (now (buf .exit)) ⌝ }
+    {
+        self.write_to_slice(app_data, buf)
     }
 
     // Leaves the two octets of an enabled checksum as they are, for which there still must be room.
@@ -653,14 +723,13 @@ impl PusTcCreatorWithReservedAppData {
         ensures { λ r. ⌜ Wrote (finishIn 11 (self .0) (length (now (buf .entry)))) (finished (self .0) (now (buf .entry))) (now (buf .entry)) r (now (buf .exit)) ⌝ }
     {
         let held = self.0;
-        held.finalize(5, buf, true)
+        held.finalize(5, buf)
     }
 
     pub fn finalize_checksum_no_table(self, buf: &mut [u8]) -> SizeResult
         ensures { λ r. ⌜ Wrote (finishIn 11 (self .0) (length (now (buf .entry)))) (finished (self .0) (now (buf .entry))) (now (buf .entry)) r (now (buf .exit)) ⌝ }
     {
-        let held = self.0;
-        held.finalize(5, buf, false)
+        self.finalize(buf)
     }
 
     // Writes nothing, and answers the total less the checksum's place.

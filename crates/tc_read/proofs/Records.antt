@@ -18,7 +18,7 @@ use Rattle.ecss.proofs.Frames.{frame-total, total-frame, checked-total}
 use Rattle.tc_header.specs.Header.{secRead, secOf}
 use Rattle.tc_header.specs.declared.PusTcSecondaryHeader.{PusTcSecondaryHeader}
 use Rattle.tc_read.specs.Read.{recordOf, crcTaken, readOf, checkedRead, appData, rawData}
-use Rattle.tc_read.specs.declared.Crc16.{Crc16}
+use Rattle.ecss.specs.declared.Crc16.{Crc16}
 use Rattle.tc_read.specs.declared.PusTcRecord.{PusTcRecord}
 
 pub primary-read : (s : List ℕ) → 11 ≤ length s → headerRead s ≡ gives (readHeader s)

@@ -23,8 +23,8 @@ use Rattle.tc_header.specs.Header.{pusC}
 use Rattle.tc_header.specs.declared.PusTcSecondaryHeader.{PusTcSecondaryHeader}
 use Rattle.tc_header.proofs.CodecLaws.{laws}
 use Rattle.tc_read.specs.Read.{recordOf, crcTaken, readOf, checkedRead, appData, rawData}
-use Rattle.tc_read.specs.declared.Crc16.{Crc16}
-use Rattle.tc_read.specs.declared.Crc16.the-variants.{Some, None}
+use Rattle.ecss.specs.declared.Crc16.{Crc16}
+use Rattle.ecss.specs.declared.Crc16.the-variants.{Some, None}
 use Rattle.tc_read.specs.declared.PusTcRecord.{PusTcRecord}
 use Rattle.tc_read.proofs.Records.{octet-six, read-is, checked-is, checked-read, raw-part}
 use Rattle.tc_read.proofs.Pieces.{Stated, primary-is, secondary-is, frame-is, data-is, stored-is, content-length, closed-length, packet-back}

@@ -8,8 +8,8 @@ use Rattle.ecss.specs.Frame.{trailer, frameOf, checkedOf, storedOf, rawPart, da
 use Rattle.ecss.specs.Codec.{secondaryOf}
 use Rattle.tc_header.specs.Header.{secOf, sameSec}
 use Rattle.ecss_tc.specs.declared.PusTcCreator.{PusTcCreator}
-use Rattle.tc_read.specs.declared.Crc16.{Crc16}
-use Rattle.tc_read.specs.declared.Crc16.the-variants.{Some, None}
+use Rattle.ecss.specs.declared.Crc16.{Crc16}
+use Rattle.ecss.specs.declared.Crc16.the-variants.{Some, None}
 use Rattle.tc_read.specs.declared.PusTcRecord.{PusTcRecord}
 use Rattle.tc_read.specs.declared.PusTcRecordResult.{PusTcRecordResult}
 use Rattle.tc_read.specs.declared.PusTcRecordResult.the-variants as R

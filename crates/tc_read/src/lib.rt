@@ -3,10 +3,13 @@
 ghost use mathlib.Core.Path.{_≡_};
 ghost use mathlib.Core.Bool.{false};
 ghost use Prim.Native.Nat.{_+_, _-_, _≤_};
+ghost use lib.Dec.{eqb};
 ghost use lib.ListN.{length};
+ghost use Rattle.space_packet.specs.Fields.{typeNumber, idRaw, pscRaw};
 ghost use Rattle.space_packet.specs.Header.{totalOf};
 ghost use Rattle.ecss.specs.Frame.{trailer};
 ghost use Rattle.tc_read.specs.Read.{recordOf, recordAnswer, readOf, checkedRead, appData, rawData, equalsCreator, equalsReader, crcTaken, hasCrc, isRead};
+pub use ecss::Crc16;
 use ecss::MessageTypeId;
 use ecss::PusError;
 use ecss::PusVersion;
@@ -15,18 +18,15 @@ use ecss_tc::PusTcCreator;
 use space_packet::Apid;
 use space_packet::PacketId;
 use space_packet::PacketSequenceControl;
+use space_packet::PacketType;
+use space_packet::SeqCount;
+use space_packet::SequenceFlags;
 use space_packet::SizeResult;
 use space_packet::SpHeader;
 use space_packet::SpHeaderResult;
 use tc_header::AckFlags;
 use tc_header::PusTcSecondaryHeader;
 use tc_header::SecHeaderResult;
-
-// The Rust's Option<u16>: the checksum, where it was taken.
-pub enum Crc16 {
-    Some(u16),
-    None,
-}
 
 // What a reader reports.
 pub struct PusTcRecord {
@@ -69,23 +69,17 @@ impl PusTcRecord {
     pub fn new(slice: &[u8]) -> PusTcRecordResult
         ensures { λ r. ⌜ recordAnswer r ≡ checkedRead (now (slice .entry)) ⌝ }
     {
-        PusTcRecord::checked(slice, true)
+        let f = frame::checked(slice, 5);
+        match f {
+            SizeResult::Err(e) => PusTcRecordResult::Err(e),
+            SizeResult::Ok(total) => PusTcRecord::of(slice, total, true),
+        }
     }
 
     pub fn new_checksum_no_table(slice: &[u8]) -> PusTcRecordResult
         ensures { λ r. ⌜ recordAnswer r ≡ checkedRead (now (slice .entry)) ⌝ }
     {
-        PusTcRecord::checked(slice, false)
-    }
-
-    fn checked(slice: &[u8], table: bool) -> PusTcRecordResult
-        ensures { λ r. ⌜ recordAnswer r ≡ checkedRead (now (slice .entry)) ⌝ }
-    {
-        let f = frame::checked(slice, 5, table);
-        match f {
-            SizeResult::Err(e) => PusTcRecordResult::Err(e),
-            SizeResult::Ok(total) => PusTcRecord::of(slice, total, true),
-        }
+        PusTcRecord::new(slice)
     }
 
     // No checksum is expected; 2.
@@ -207,6 +201,69 @@ impl PusTcRecord {
     {
         let h = self.sp_header;
         h.data_len
+    }
+
+    pub fn packet_len(self) -> usize
+        ensures { λ r. ⌜ r ≡ totalOf (self .«sp_header») ⌝ }
+    {
+        let h = self.sp_header;
+        h.packet_len()
+    }
+
+    pub fn packet_id_raw(self) -> u16
+        ensures { λ r. ⌜ r ≡ idRaw (self .«sp_header» .«packet_id») ⌝ }
+    {
+        let h = self.sp_header;
+        h.packet_id_raw()
+    }
+
+    pub fn psc_raw(self) -> u16
+        ensures { λ r. ⌜ r ≡ pscRaw (self .«sp_header» .psc) ⌝ }
+    {
+        let h = self.sp_header;
+        h.psc_raw()
+    }
+
+    pub fn packet_type(self) -> PacketType
+        ensures { λ r. ⌜ r ≡ self .«sp_header» .«packet_id» .«packet_type» ⌝ }
+    {
+        let h = self.sp_header;
+        h.packet_type()
+    }
+
+    pub fn is_tm(self) -> bool
+        ensures { λ r. ⌜ r ≡ eqb (typeNumber (self .«sp_header» .«packet_id» .«packet_type»)) 0 ⌝ }
+    {
+        let h = self.sp_header;
+        h.is_tm()
+    }
+
+    pub fn is_tc(self) -> bool
+        ensures { λ r. ⌜ r ≡ eqb (typeNumber (self .«sp_header» .«packet_id» .«packet_type»)) 1 ⌝ }
+    {
+        let h = self.sp_header;
+        h.is_tc()
+    }
+
+    pub fn sec_header_flag(self) -> bool
+        ensures { λ r. ⌜ r ≡ self .«sp_header» .«packet_id» .«sec_header_flag» ⌝ }
+    {
+        let h = self.sp_header;
+        h.sec_header_flag()
+    }
+
+    pub fn seq_count(self) -> SeqCount
+        ensures { λ r. ⌜ r ≡ self .«sp_header» .psc .«seq_count» ⌝ }
+    {
+        let h = self.sp_header;
+        h.seq_count()
+    }
+
+    pub fn sequence_flags(self) -> SequenceFlags
+        ensures { λ r. ⌜ r ≡ self .«sp_header» .psc .«seq_flags» ⌝ }
+    {
+        let h = self.sp_header;
+        h.sequence_flags()
     }
 
     pub fn apid(self) -> Apid

@@ -15,7 +15,7 @@ use Rattle.ecss.proofs.Frames.{frame-total, total-frame}
 use Rattle.tc_header.specs.Header.{secOf}
 use Rattle.ecss_tc.specs.declared.PusTcCreator.{PusTcCreator}
 use Rattle.tc_read.specs.Read.{recordOf, crcTaken, readOf, appData, rawData, isRead, reportsCreator, equalsCreator, equalsReader}
-use Rattle.tc_read.specs.declared.Crc16.the-variants.{Some}
+use Rattle.ecss.specs.declared.Crc16.the-variants.{Some}
 use Rattle.tc_reader.specs.Held.{Held, primaryIn, secondaryIn, heldOf}
 
 -- ---- the first n octets

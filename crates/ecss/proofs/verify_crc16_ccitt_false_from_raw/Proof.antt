@@ -6,13 +6,12 @@ use Rattle.ecss.proofs.verify_crc16_ccitt_false_from_raw.Statement.{sta
 use Rattle.ecss.proofs.verify_crc16_ccitt_false_from_raw.Tie as tie
 use Rattle.ecss.proofs.verify_crc16_ccitt_false_from_raw.Reads as reads
 use Rattle.ecss.proofs.verify_crc16_ccitt_false_from_raw.Lts as lts
-use Rattle.ecss.proofs.checksum.Reads as checksum-reads
 
-checksum-requires : tie.Need-checksum-requires
-checksum-requires c κs = search needs
+crc-ccitt-false-no-table-requires : tie.Need-crc-ccitt-false-no-table-requires
+crc-ccitt-false-no-table-requires c κs = search needs
 
 returns : tie.Need-returns
-returns c = ap (λ (x : ℕ). eqb x 0) (c .checksum .ensures)
+returns c = ap (λ (x : ℕ). eqb x 0) (c .crc-ccitt-false-no-table .ensures)
 
 pub verify-crc16-ccitt-false-from-raw-spec : {M : Type 1} → statement M
-verify-crc16-ccitt-false-from-raw-spec = tie.close (tie.spec checksum-requires returns)
+verify-crc16-ccitt-false-from-raw-spec = tie.close (tie.spec crc-ccitt-false-no-table-requires returns)

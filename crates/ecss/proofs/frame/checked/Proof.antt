@@ -11,7 +11,6 @@ use Rattle.ecss.proofs.frame.checked.Reads as reads
 use Rattle.ecss.proofs.frame.checked.Lts as lts
 use Rattle.ecss.proofs.frame.frame_of.Reads as frame-of-reads
 use Rattle.ecss.proofs.frame.front.Reads as front-reads
-use Rattle.ecss.proofs.verify.Reads as verify-reads
 use Rattle.space_packet.proofs.word_at.Reads as word-at-reads
 
 frame-of-requires : tie.Need-frame-of-requires
@@ -32,8 +31,8 @@ word-at-requires c κs = search needs
 front-requires : tie.Need-front-requires
 front-requires c κs = let e = sym (c .before .before .before .before .frame-of .ensures) ∙ ap sizeAnswer (c .before .before .f2 .given .1) in let q = frame-total _ _ _ _ e in omega arith
 
-verify-requires : tie.Need-verify-requires
-verify-requires c κs = search needs
+verify-crc16-ccitt-false-from-raw-to-pus-error-requires : tie.Need-verify-crc16-ccitt-false-from-raw-to-pus-error-requires
+verify-crc16-ccitt-false-from-raw-to-pus-error-requires c κs = search needs
 
 enum-known-v : tie.Need-enum-known-v
 enum-known-v c = search needs
@@ -47,11 +46,11 @@ returns c = let e = sym (c .before .before .before .frame-of .ensures) ∙ ap si
 
 returns-2 : tie.Need-returns-2
 unfolding checkedOf
-returns-2 c = let e = sym (c .before .before .before .before .before .before .before .before .before .frame-of .ensures) ∙ ap sizeAnswer (c .before .before .before .before .before .before .before .f2 .given .1) in let v = rw (c .before .before .before .before .front .ensures, c .before .before .before .before .before .word-at .ensures) at (sym (c .before .before .before .verify .ensures) ∙ ap checkAnswer (c .before .v .given .1)) in sym (gives-then _ _ _ e ∙ refuses-then _ _ _ v)
+returns-2 c = let e = sym (c .before .before .before .before .before .before .before .before .before .frame-of .ensures) ∙ ap sizeAnswer (c .before .before .before .before .before .before .before .f2 .given .1) in let v = rw (c .before .before .before .before .front .ensures, c .before .before .before .before .before .word-at .ensures) at (sym (c .before .before .before .verify-crc16-ccitt-false-from-raw-to-pus-error .ensures) ∙ ap checkAnswer (c .before .v .given .1)) in sym (gives-then _ _ _ e ∙ refuses-then _ _ _ v)
 
 returns-3 : tie.Need-returns-3
 unfolding checkedOf
-returns-3 c = let e = sym (c .before .before .before .before .before .before .before .before .frame-of .ensures) ∙ ap sizeAnswer (c .before .before .before .before .before .before .f2 .given .1) in let v = rw (c .before .before .before .front .ensures, c .before .before .before .before .word-at .ensures) at (sym (c .before .before .verify .ensures) ∙ ap checkAnswer (c .enum-told .given .1)) in sym (gives-then _ _ _ e ∙ gives-then _ _ _ v)
+returns-3 c = let e = sym (c .before .before .before .before .before .before .before .before .frame-of .ensures) ∙ ap sizeAnswer (c .before .before .before .before .before .before .f2 .given .1) in let v = rw (c .before .before .before .front .ensures, c .before .before .before .before .word-at .ensures) at (sym (c .before .before .verify-crc16-ccitt-false-from-raw-to-pus-error .ensures) ∙ ap checkAnswer (c .enum-told .given .1)) in sym (gives-then _ _ _ e ∙ gives-then _ _ _ v)
 
 pub checked-spec : {M : Type 1} → statement M
 checked-spec =
@@ -63,7 +62,7 @@ checked-spec =
     sub-word-at
     word-at-requires
     front-requires
-    verify-requires
+    verify-crc16-ccitt-false-from-raw-to-pus-error-requires
     enum-known-v
     enum-told
     returns

@@ -10,14 +10,13 @@ use Rattle.ecss.proofs.frame.put_checksum.Statement.{statement}
 use Rattle.ecss.proofs.frame.put_checksum.Tie as tie
 use Rattle.ecss.proofs.frame.put_checksum.Reads as reads
 use Rattle.ecss.proofs.frame.put_checksum.Lts as lts
-use Rattle.ecss.proofs.checksum.Reads as checksum-reads
 use Rattle.ecss.proofs.frame.front.Reads as front-reads
 
 front-requires : tie.Need-front-requires
 front-requires c κs = search needs
 
-checksum-requires : tie.Need-checksum-requires
-checksum-requires c κs = search needs
+crc-ccitt-false-no-table-requires : tie.Need-crc-ccitt-false-no-table-requires
+crc-ccitt-false-no-table-requires c κs = search needs
 
 cast-buf : tie.Need-cast-buf
 cast-buf c = search needs
@@ -39,14 +38,14 @@ same-length c = search needs
 
 returns : tie.Need-returns
 unfolding sealed
-returns c = let a = c .before .before .before .before .args in rw (c .checksum .ensures, c .before .front .ensures, add-one (a .end), sets-eq (be16 (crcOf (take (a .end) (a .buf .now)))) (a .buf .now) (a .end) (omega arith))
+returns c = let a = c .before .before .before .before .args in rw (c .crc-ccitt-false-no-table .ensures, c .before .front .ensures, add-one (a .end), sets-eq (be16 (crcOf (take (a .end) (a .buf .now)))) (a .buf .now) (a .end) (omega arith))
 
 pub put-checksum-spec : {M : Type 1} → statement M
 put-checksum-spec =
     tie.close
     (tie.spec
     front-requires
-    checksum-requires
+    crc-ccitt-false-no-table-requires
     cast-buf
     slice-write-buf
     cast-buf-2

@@ -4,8 +4,8 @@ use Rattle.space_packet.proofs.Answers.{gives-then, refuses-then}
 use Rattle.ecss.proofs.Frames.{checked-total}
 use Rattle.tc_read.specs.Read.{checkedRead, recordAnswer}
 use borrow.Author.Needs.{needs}
-use Rattle.tc_read.proofs.PusTcRecord.checked.Statement.{statement}
-use Rattle.tc_read.proofs.PusTcRecord.checked.Tie as tie
+use Rattle.tc_read.proofs.PusTcRecord.new.Statement.{statement}
+use Rattle.tc_read.proofs.PusTcRecord.new.Tie as tie
 
 checked-requires : tie.Need-checked-requires
 checked-requires c κs = search needs
@@ -27,6 +27,6 @@ returns-2 : tie.Need-returns-2
 unfolding checkedRead
 returns-2 c = let e = sym (c .before .before .before .before .checked .ensures) ∙ ap sizeAnswer (c .before .before .f2 .given .1) in ap recordAnswer (c .of .ensures) ∙ sym (gives-then _ _ _ e)
 
-pub checked-spec : {M : Type 1} → statement M
-checked-spec =
+pub new-spec : {M : Type 1} → statement M
+new-spec =
     tie.close (tie.spec checked-requires enum-known-f enum-known-f-2 of-requires returns returns-2)
