@@ -24,7 +24,10 @@ def packet(data=b"", first=0x19, octet_6=0x2F, service=17, subtype=1, apid=0x23)
 
 
 def report(capture):
+    """What is printed of a capture, or of an input that cannot be read where it is None."""
     lines = ["tcverdict 1"]
+    if capture is None:
+        return lines + ["cannot be read"]
     if len(capture) > 65536:
         return lines + ["too long"]
     for word in model.split(capture):
@@ -80,6 +83,9 @@ def main():
         names.append(name)
         (folder / name).write_bytes(capture)
         lines += [f"== {name}", *report(capture)]
+    # A folder can be opened, and every read of it fails.
+    names.append(".")
+    lines += ["== .", *report(None)]
     names.append("missing")
     lines += ["== missing", "cannot be opened"]
     (CRATES / "captures/args").write_text("\n".join(names) + "\n")

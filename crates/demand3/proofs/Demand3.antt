@@ -1,35 +1,32 @@
 -- The third demand: the strict verdict accepts bytes exactly when they begin with a checksummed telecommand that the written
 -- rules produce from some headers and at most 65,529 octets of data. `strict::judge` answers `strictOf` of its octets.
-use Prim.Native.Nat.{ℕ, _+_, _-_, _≤_}
+use Prim.Native.Nat.{ℕ, _+_, _≤_}
 use mathlib.Core.Path.{_≡_, refl, sym, ap, _∙_, subst}
 use mathlib.Core.Logic.{_↔_}
-use mathlib.Core.Bool.{Bool, true, false}
-use mathlib.Core.List.{List, [], _∷_, _++_}
+use mathlib.Core.Bool.{Bool, true}
+use mathlib.Core.List.{List, _++_}
 use native.Mathlib.Omega.{arith}
 use lib.ListN.{length, take, drop}
-use lib.Dec.{ltb}
-use borrow.Author.Tests.{ltb-false}
-use Rattle.space_packet.specs.Answer.{Answer, Numbers, gives, refuses}
-use Rattle.space_packet.specs.Header.{headerCheck, leftBy}
+use Rattle.space_packet.specs.Answer.{Numbers, gives, refuses}
 use Rattle.space_packet.specs.Wrote.{Wrote}
 use Rattle.space_packet.specs.declared.SpacePacketHeader.{SpacePacketHeader}
+use Rattle.space_packet.specs.declared.SizeResult.{SizeResult}
 use Rattle.space_packet.specs.declared.SizeResult.the-variants as Z
-use Rattle.space_packet.proofs.Answers.{gives-inj, gives-then, then-gives, refuses-then, refuse-gives, left-written}
-use Rattle.space_packet.proofs.RoundTrip.{check-in-range}
+use Rattle.space_packet.proofs.Answers.{gives-inj, gives-then, then-gives, refuses-then, left-written}
+use Rattle.space_packet.proofs.Determined.{writes}
 use Rattle.ecss.specs.Frame.{Octets, statedOf, closed}
-use Rattle.ecss.specs.Write.{lengthOf, lengthField, limited}
+use Rattle.ecss.specs.Version.{defaultConfig}
+use Rattle.ecss.specs.Reserve.{finishIn, finished}
 use Rattle.ecss.specs.declared.PusVersion.the-variants.{PusC}
-use Rattle.ecss.proofs.Frames.{length-total}
 use Rattle.ecss.specs.Codec.{Written, judge, packetOf}
 use Rattle.tc_header.specs.Header.{pusC}
 use Rattle.tc_header.specs.declared.PusTcSecondaryHeader.{PusTcSecondaryHeader}
 use Rattle.tc_header.proofs.CodecLaws.{laws}
-use Rattle.tc_header.proofs.Checks.{ack-passes, version-passes}
-use Rattle.ecss_tc.specs.Creator.{creatorOf, asCommand, withLength, creatorCheck, created, newOf, writeOf, octetsFor, contentFor}
-use Rattle.ecss_tc.specs.Reserved.{reserveOf}
+use Rattle.ecss_tc.specs.Creator.{creatorOf, newOf, contentFor}
+use Rattle.ecss_tc.specs.Reserved.{reservationOf, reserveOf}
 use Rattle.ecss_tc.specs.declared.PusTcCreator.{PusTcCreator}
 use Rattle.ecss_tc.specs.declared.PusTcCreatorWithReservedAppData.{PusTcCreatorWithReservedAppData}
-use Rattle.ecss_tc.proofs.Agree.{reservedIn, filledIn, finishedIn, reserved-agrees}
+use Rattle.ecss_tc.proofs.Agree.{filledIn, reserved-agrees}
 use Rattle.tc_read.specs.Read.{recordOf, readOf, checkedRead, appData}
 use Rattle.tc_read.specs.declared.PusTcRecord.{PusTcRecord}
 use Rattle.tc_read.proofs.Records.{checked-is}
@@ -38,7 +35,8 @@ use Rattle.exactness.specs.Changed.{Changed}
 use Rattle.exactness.proofs.Exact.{complete, sound, unique, agrees, total-bound, rewritten}
 use Rattle.exactness.proofs.Changed.{refused}
 use Rattle.strict.specs.Verdict.{strictOf}
-use Rattle.demand3.specs.Rules.{telecommand, Rules, BeginsWith, reportFor}
+use Rattle.demand3.specs.Rules.{telecommand, Rules, BeginsWith, reportFor, Handed, headerFor, Room, WrittenBy, FinishedBy, Accepted}
+use Rattle.demand3.proofs.Given.{write-given, creator-given, handed-rules, made-handed, reservation-given}
 
 -- ---- between the records here and those of every codec
 
@@ -127,61 +125,55 @@ exactly s o = (
   λ b. (reportFor (b .0) (b .1) (b .2), reports s (b .0) (b .1) (b .2) (b .3)),
 )
 
--- 4. Written packets are accepted. What write_to_slice, in both checksum forms, leaves in a buffer that has room, for headers
--- and data under those rules, whatever the buffer held:
-pub written-accepted : (t : PusTcCreator) (d before after : List ℕ) (n : ℕ) → t .«has_checksum» ≡ true → Rules (t .«sp_header») (t .«sec_header») d
-    → Wrote (writeOf t (length d) (length before)) (octetsFor t d) before (Z.Ok n) after
-    → strictOf after ≡ gives (reportFor (t .«sp_header») (t .«sec_header») d)
-written-accepted t d before after n c r w =
-    reports after (t .«sp_header») (t .«sec_header») d
-    (record {
-      rules = r;
-      rest = drop n before;
-      octets =
-          w .left ∙ left-written _ _ _ _ (sym (w .answered))
-          ∙ ap (λ (b : Bool). closed b (contentFor t d) ++ drop n before) c;
-    })
+-- 4. Written packets are accepted: whatever write_to_slice in both checksum forms, the builder's path, and the reserved writer
+-- with its finish leave in a buffer, for headers and data under those rules, is accepted, in a buffer of any length that has
+-- room and with anything after it. First write_to_slice, whose two forms have one contract:
+pub written-accepted : (t : PusTcCreator) (d before after : List ℕ) (r : SizeResult) → t .«has_checksum» ≡ true
+    → Rules (t .«sp_header») (t .«sec_header») d → Room d before
+    → WrittenBy t d before r after → Accepted (t .«sp_header») (t .«sec_header») d before r after
+written-accepted t d before after r c u m w =
+    let n = 11 + length d + 2 in
+    let g = write-given t d before c u m in
+    let e = w .left ∙ left-written _ _ _ _ g ∙ ap (λ (b : Bool). closed b (contentFor t d) ++ drop n before) c in
+    record {
+      answers = writes _ _ _ r (Z.Ok n) after _ w (record { answered = sym g; left = refl }) .0;
+      leaves = e;
+      accepted = reports after (t .«sp_header») (t .«sec_header») d (record { rules = u; rest = drop n before; octets = e });
+    }
 
--- a creator that construction or the builder made, with the length set, is under those rules
+-- Then the builder's path. What construction or the builder makes, with the length set and a checksum, is under those rules,
 pub made-under-rules : (h : SpacePacketHeader) (x : PusTcSecondaryHeader) (d : List ℕ) (t : PusTcCreator) → h .version ≡ 0 → x .version ≡ PusC
-    → newOf h x (length d) (record { «set_ccsds_len» = true; «has_checksum» = true }) ≡ gives t → Rules (t .«sp_header») (t .«sec_header») d
-unfolding created lengthField
+    → newOf h x (length d) defaultConfig ≡ gives t → Rules (t .«sp_header») (t .«sec_header») d
 made-under-rules h x d t v c p =
-    let a = then-gives (creatorCheck (creatorOf (asCommand h) x true)) _ t p in
-    let k = then-gives (headerCheck (asCommand h)) _ tt (a .1) in
-    let f = then-gives (lengthField 11 true (length d)) _ t (a .2) in
-    let l = then-gives (lengthOf 11 true (length d)) _ (f .0) (f .1) in
-    let m = then-gives (limited (length d) (l .0)) _ (f .0) (l .2) in
-    let q = refuse-gives (ltb 65542 (l .0)) _ _ (m .0) (m .1) in
-    let le : l .0 ≤ 65542 = ltb-false 65542 (l .0) (q .0) in
-    let g = check-in-range (asCommand h) (k .1) in
-    let e : t ≡ creatorOf (withLength (asCommand h) (f .0)) x true = sym (gives-inj _ t (f .2)) in
-    let i = length-total 11 true (length d) (l .0) (l .1) in
-    let z : f .0 ≡ l .0 - 7 = sym (gives-inj _ (f .0) (m .2)) in
-    subst (λ (u : PusTcCreator). Rules (u .«sp_header») (u .«sec_header») d) (sym e)
-    (record {
-      in-range = record { version-fits = g .version-fits; apid-fits = g .apid-fits; count-fits = g .count-fits };
-      ack-fits = ack-passes (x .«ack_flags») .0 (k .2);
-      version-zero = v;
-      is-command = refl;
-      has-secondary = refl;
-      pus-c = c;
-      states-length = omega arith;
-      at-most = omega arith;
-    })
+    let g = made-handed h x d t v c p in
+    subst (λ (u : PusTcCreator). Rules (u .«sp_header») (u .«sec_header») d) (gives-inj _ t (sym (creator-given h x d g) ∙ p)) (handed-rules h x d g)
 
--- the reserved writer: reserved, filled with the data, and finished
-pub reserved-accepted : (h : SpacePacketHeader) (x : PusTcSecondaryHeader) (d before : List ℕ) (r : PusTcCreatorWithReservedAppData) → length before ≤ 18446744073709551615
-    → h .version ≡ 0 → reserveOf h x (length d) true (length before) ≡ gives r
-    → (g : SpacePacketHeader) × (strictOf (finishedIn r (filledIn r d (reservedIn h x d true before))) ≡ gives (reportFor g x d))
-reserved-accepted h x d before r m v p =
-    let a = reserved-agrees h x d true before r m p in
-    let c = version-passes (x .version) .0 (a .version) in
-    let k = made-under-rules h x d (a .creator) v c (a .made) in (
-      a .creator .«sp_header»,
-      ap strictOf (a .leaves)
-          ∙ written-accepted (a .creator) d before (leftBy (writeOf (a .creator) (length d) (length before)) (octetsFor (a .creator) d) before) _ (a .checksum) k (record { answered = sym (a .writes); left = refl })
-          ∙ ap (λ (y : PusTcSecondaryHeader). gives (reportFor (a .creator .«sp_header») y d)) (a .second),
+-- and where the fields are in range they make a creator t, and what t writes is accepted.
+pub built-accepted : (h : SpacePacketHeader) (x : PusTcSecondaryHeader) (d before : List ℕ) → Handed h x d → Room d before
+    → (t : PusTcCreator) × (newOf h x (length d) defaultConfig ≡ gives t)
+    × ((r : SizeResult) (after : List ℕ) → WrittenBy t d before r after → Accepted (headerFor h d) x d before r after)
+built-accepted h x d before g k =
+    let t = creatorOf (headerFor h d) x true in
+    let p = creator-given h x d g in
+    (t, p, λ r after. written-accepted t d before after r refl (made-under-rules h x d t (g .version-zero) (g .pus-c) p) k)
+
+-- Then the reserved writer: it gives a reservation q, and what is filled in there and finished is accepted.
+pub reserved-accepted : (h : SpacePacketHeader) (x : PusTcSecondaryHeader) (d before : List ℕ) → Handed h x d → Room d before
+    → (q : PusTcCreatorWithReservedAppData) × (reserveOf h x (length d) true (length before) ≡ gives q)
+    × ((r : SizeResult) (after : List ℕ) → FinishedBy q h x d before r after → Accepted (headerFor h d) x d before r after)
+reserved-accepted h x d before g k =
+    let q = reservationOf (11 + length d + 2) true in
+    let p = reservation-given h x d g before k in
+    let a = reserved-agrees h x d true before q (k .is-slice) p in
+    let e : a .creator ≡ creatorOf (headerFor h d) x true = gives-inj _ _ (sym (a .made) ∙ creator-given h x d g) in
+    let u = made-under-rules h x d (a .creator) (g .version-zero) (g .pus-c) (a .made) in (
+      q,
+      p,
+      λ r after f.
+          let m = f .fills ∙ ap (filledIn q d) (f .reserves) in
+          let w = subst (λ (y : List ℕ). Wrote (finishIn 11 (q .0) (length y)) (finished (q .0) y) y r after) m (f .finishes) in
+          subst (λ (t : PusTcCreator). Accepted (t .«sp_header») (t .«sec_header») d before r after) e
+          (written-accepted (a .creator) d before after r (a .checksum) u k (record { answered = w .answered ∙ a .answers; left = w .left ∙ a .leaves })),
     )
 
 -- 5. An accepted s, changed to s′ in an odd number of bits, or in some bits within a run of 16, none of them in octets 4 and 5

@@ -1,2 +1,3 @@
+pub mod Given
 pub mod Demand3
 pub mod Cases

@@ -1,1 +1,85 @@
 // What the customer asks of the strict verdict, as theorems: specs/Rules.antt has the words, proofs/Demand3.antt the theorems.
+//
+// Theorem 4 is also proved here of the calls themselves: each function below writes a packet, in either checksum form, and has
+// the buffer judged. They are there for their contracts, and nothing calls them.
+ghost use mathlib.Core.Path.{_≡_};
+ghost use mathlib.Core.Bool.{true};
+ghost use lib.ListN.{length};
+ghost use Rattle.space_packet.specs.Wrote.{Wrote};
+ghost use Rattle.ecss.specs.Reserve.{finishIn, finished};
+ghost use Rattle.demand3.specs.Rules.{Rules, Handed, headerFor, Fits, WrittenBy, Accepts};
+use ecss_tc::PusTcBuilder;
+use ecss_tc::PusTcCreator;
+use ecss_tc::PusTcCreatorResult;
+use ecss_tc::PusTcCreatorWithReservedAppData;
+use ecss_tc::ReservedResult;
+use space_packet::SizeResult;
+use space_packet::SpHeader;
+use strict::Verdict;
+use tc_header::PusTcSecondaryHeader;
+
+fn write(creator: PusTcCreator, app_data: &[u8], buf: &mut [u8], table: bool) -> SizeResult
+    ensures { λ r. ⌜ WrittenBy creator (now («app_data» .entry)) (now (buf .entry)) r (now (buf .exit)) ⌝ }
+{
+    if table {
+        return creator.write_to_slice(app_data, buf);
+    }
+    creator.write_to_slice_crc_no_table(app_data, buf)
+}
+
+fn finish(held: PusTcCreatorWithReservedAppData, buf: &mut [u8], table: bool) -> SizeResult
+    ensures { λ r. ⌜ Wrote (finishIn 11 (held .0) (length (now (buf .entry)))) (finished (held .0) (now (buf .entry))) (now (buf .entry)) r (now (buf .exit)) ⌝ }
+{
+    if table {
+        return held.finalize(buf);
+    }
+    held.finalize_checksum_no_table(buf)
+}
+
+fn written(creator: PusTcCreator, app_data: &[u8], buf: &mut [u8], table: bool) -> Verdict
+    ensures { λ v. ⌜ (creator .«has_checksum» ≡ true → Rules (creator .«sp_header») (creator .«sec_header») (now («app_data» .entry))
+        → Fits (now («app_data» .entry)) (now (buf .entry))
+        → Accepts v (creator .«sp_header») (creator .«sec_header») (now («app_data» .entry))) ⌝ }
+{
+    write(creator, app_data, buf, table);
+    strict::judge(buf)
+}
+
+fn built(builder: PusTcBuilder, app_data: &[u8], buf: &mut [u8], table: bool) -> Verdict
+    ensures { λ v. ⌜ (builder .«has_checksum» ≡ true → Handed (builder .«sp_header») (builder .«sec_header») (now («app_data» .entry))
+        → Fits (now («app_data» .entry)) (now (buf .entry))
+        → Accepts v (headerFor (builder .«sp_header») (now («app_data» .entry))) (builder .«sec_header») (now («app_data» .entry))) ⌝ }
+{
+    let made = builder.build(app_data);
+    match made {
+        PusTcCreatorResult::Err(e) => Verdict::Refused(e),
+        PusTcCreatorResult::Ok(creator) => written(creator, app_data, buf, table),
+    }
+}
+
+fn reserved(
+    sp_header: SpHeader,
+    sec_header: PusTcSecondaryHeader,
+    app_data: &[u8],
+    buf: &mut [u8],
+    table: bool,
+) -> Verdict
+    ensures { λ v. ⌜ (Handed «sp_header» «sec_header» (now («app_data» .entry)) → Fits (now («app_data» .entry)) (now (buf .entry))
+        → Accepts v (headerFor «sp_header» (now («app_data» .entry))) «sec_header» (now («app_data» .entry))) ⌝ }
+{
+    let made = PusTcCreatorWithReservedAppData::new(
+        buf,
+        sp_header,
+        sec_header,
+        app_data.len(),
+        true,
+    );
+    match made {
+        ReservedResult::Err(e) => Verdict::Refused(e),
+        ReservedResult::Ok(held) => {
+            held.fill_app_data(app_data, buf);
+            finish(held, buf, table);
+            strict::judge(buf)
+        }
+    }
+}

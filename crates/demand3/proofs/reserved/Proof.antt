@@ -1,0 +1,88 @@
+use Prim.Native.Nat.{ℕ}
+use mathlib.Core.Path.{_≡_, sym, ap, subst, _∙_}
+use mathlib.Core.Bool.{true}
+use mathlib.Core.List.{List}
+use native.Mathlib.Omega.{arith}
+use lib.ListN.{length}
+use Rattle.space_packet.specs.Answer.{gives}
+use Rattle.space_packet.specs.Wrote.{Wrote}
+use Rattle.space_packet.specs.declared.SpacePacketHeader.{SpacePacketHeader}
+use Rattle.space_packet.specs.declared.SizeResult.{SizeResult}
+use Rattle.space_packet.proofs.Answers.{gives-inj, never}
+use Rattle.ecss.specs.Reserve.{fillIn, filledBy, finishIn, finished}
+use Rattle.tc_header.specs.declared.PusTcSecondaryHeader.{PusTcSecondaryHeader}
+use Rattle.ecss_tc.specs.Reserved.{reserveOf, reservedAnswer, headFor, reservedLeft}
+use Rattle.ecss_tc.specs.declared.PusTcCreatorWithReservedAppData.{PusTcCreatorWithReservedAppData}
+use Rattle.strict.specs.Verdict.{strictOf}
+use Rattle.demand3.specs.Rules.{Handed, headerFor, Room, reportFor, FinishedBy}
+use Rattle.demand3.proofs.Demand3.{reserved-accepted}
+use borrow.Author.Needs.{needs}
+use Rattle.demand3.proofs.reserved.Statement.{statement}
+use Rattle.demand3.proofs.reserved.Tie as tie
+
+-- what the three calls leave, one after the other
+accepted : (h : SpacePacketHeader) (x : PusTcSecondaryHeader) (d before : List ℕ) → Handed h x d → Room d before
+    → (q : PusTcCreatorWithReservedAppData) (l m after : List ℕ) (r : SizeResult) → gives q ≡ reserveOf h x (length d) true (length before)
+    → l ≡ reservedLeft (reserveOf h x (length d) true (length before)) (headFor h x (length d) true) before
+    → m ≡ filledBy (fillIn 11 (q .0) (length l) (length d)) 11 d l → Wrote (finishIn 11 (q .0) (length m)) (finished (q .0) m) m r after
+    → strictOf after ≡ gives (reportFor (headerFor h d) x d)
+accepted h x d before g k q l m after r e p f w =
+    let t = reserved-accepted h x d before g k in
+    let i : q ≡ t .0 = gives-inj _ _ (e ∙ t .1) in
+    let b : FinishedBy q h x d before r after = record { headed = l; filled = m; reserves = p; fills = f; finishes = w } in
+    t .2 r after (subst (λ (z : PusTcCreatorWithReservedAppData). FinishedBy z h x d before r after) i b) .accepted
+
+new-requires : tie.Need-new-requires
+new-requires c κs = search needs
+
+enum-known-made : tie.Need-enum-known-made
+enum-known-made c = search needs
+
+enum-known-made-2 : tie.Need-enum-known-made-2
+enum-known-made-2 c = search needs
+
+fill-app-data-requires : tie.Need-fill-app-data-requires
+fill-app-data-requires c κs = search needs
+
+finish-requires : tie.Need-finish-requires
+finish-requires c κs = search needs
+
+judge-requires : tie.Need-judge-requires
+judge-requires c κs = search needs
+
+same-length : tie.Need-same-length
+same-length c = search needs
+
+returns : tie.Need-returns
+returns c =
+    let a = c .before .before .before .before .before .before .before .before .before .args in
+    λ g k.
+    let t = reserved-accepted (a .sp-header) (a .sec-header) (a .app-data .now) (a .buf .now) g (record { fits = k; is-slice = omega arith }) in
+    let m = sym (ap reservedAnswer (c .before .made .given .1)) ∙ c .before .before .before .before .before .new .ensures .0 ∙ t .1 in
+    absurd (never _ _ m)
+
+same-length-2 : tie.Need-same-length-2
+same-length-2 c = search needs
+
+returns-2 : tie.Need-returns-2
+returns-2 c =
+    let a = c .before .before .before .before .before .before .before .before .before .before .before .before .before .before .before .before .before .before .before .args in
+    λ g k.
+    c .judge .ensures
+    ∙ accepted (a .sp-header) (a .sec-header) (a .app-data .now) (a .buf .now) g (record { fits = k; is-slice = omega (arith, c .before .before .before .before .before .before .before .before .before .before .before .before .before .before .before .before .before .before .before .good) }) _ _ _ _ _
+    (sym (ap reservedAnswer (c .before .before .before .before .before .before .before .before .before .before .before .made2 .given .1)) ∙ c .before .before .before .before .before .before .before .before .before .before .before .before .before .before .before .new .ensures .0) (c .before .before .before .before .before .before .before .before .before .before .before .before .before .before .before .new .ensures .1) (c .before .before .before .before .before .before .before .before .fill-app-data .ensures .1) (c .before .before .before .before .finish .ensures)
+
+pub reserved-spec : {M : Type 1} → statement M
+reserved-spec =
+    tie.close
+    (tie.spec
+    new-requires
+    enum-known-made
+    enum-known-made-2
+    fill-app-data-requires
+    finish-requires
+    judge-requires
+    same-length
+    returns
+    same-length-2
+    returns-2)
