@@ -1,4 +1,4 @@
--- What the checksum detects: octets that verify do not verify once an error of `Error` is added to them. That adding
+-- What the checksum detects: octets that verify do not verify once an error whose bits are `Detected` is added to them. That adding
 -- an error changes the bits that it sets, and no other, is `bitsOf-⊕` of the checksum's laws.
 -- Assumes nothing.
 use mathlib.Core.Path.{_≡_, sym, ap, _∙_}
@@ -7,7 +7,7 @@ use Prim.Native.Nat.{ℕ}
 use lib.ListN.{length}
 use Rattle.crc.specs.Crc.{_⊕_, run, bitsOf, crcFrom, crcOf}
 use Rattle.crc.specs.Error.{addOctets}
-use Rattle.detect.specs.Error.{Error, odd, burst}
+use Rattle.detect.specs.Error.{Detected, odd, burst}
 use Rattle.crc.proofs.Xor.{zero-⊕}
 use Rattle.crc.proofs.Linear.{crcOf-⊕}
 use Rattle.detect.proofs.Parity.{odd-leaves}
@@ -19,6 +19,6 @@ unfolding crcFrom
 undetected s e h z u =
     sym (zero-⊕ (crcFrom 0 e)) ∙ ap (λ (x : ℕ). x ⊕ crcFrom 0 e) (sym z) ∙ sym (crcOf-⊕ s e h) ∙ u
 
-pub detects : (s e : List ℕ) → length s ≡ length e → crcOf s ≡ 0 → Error e → crcOf (addOctets s e) ≡ 0 → ⊥
+pub detects : (s e : List ℕ) → length s ≡ length e → crcOf s ≡ 0 → Detected (bitsOf e) → crcOf (addOctets s e) ≡ 0 → ⊥
 detects s e h z (odd o) u = odd-leaves (bitsOf e) o (undetected s e h z u)
 detects s e h z (burst b) u = burst-leaves (bitsOf e) b (undetected s e h z u)

@@ -5,7 +5,6 @@ use mathlib.Core.Bool.{Bool, true, false}
 use mathlib.Core.List.{List, [], _∷_}
 use Prim.Native.Nat.{ℕ, suc, _+_, _%_, _≤_, _<_}
 use lib.ListN.{getD}
-use Rattle.crc.specs.Crc.{bitsOf}
 
 -- how many bits are set
 unfoldable pub ones : List Bool → ℕ
@@ -20,7 +19,7 @@ pub record Burst (bs : List Bool) : Type 0 where
   pub place : ℕ
   pub set : getD bs place false ≡ true
 
--- an odd number of bits, or one or more bits all within a run of 16
-pub data Error (e : List ℕ) : Type 0 where
-  odd : ones (bitsOf e) % 2 ≡ 1 → Error e
-  burst : Burst (bitsOf e) → Error e
+-- an odd number of bits, or one or more bits all within a run of 16 consecutive bits
+pub data Detected (bs : List Bool) : Type 0 where
+  odd : ones bs % 2 ≡ 1 → Detected bs
+  burst : Burst bs → Detected bs

@@ -5,3 +5,4 @@ pub mod Sealed
 pub mod Octets
 pub mod Rules
 pub mod Determined
+pub mod Pieces

@@ -7,16 +7,15 @@ use native.Mathlib.Nat.{suc-inj}
 use lib.ListN.{length, take}
 use lib.Seq.{length-take-le}
 use Rattle.space_packet.specs.Answer.{Answer, Numbers, gives, refuses}
-use Rattle.crc.specs.Crc.{_⊕_, bitsOf, crcOf}
+use Rattle.crc.specs.Crc.{_⊕_, crcOf}
 use Rattle.crc.specs.Error.{addOctets}
 use Rattle.crc.proofs.Xor.{⊕-assoc, ⊕-self, zero-⊕}
 use Rattle.crc.proofs.Linear.{bitsOf-⊕}
-use Rattle.detect.specs.Error.{Error}
-use Rattle.detect.specs.Error as E
+use Rattle.detect.specs.Error.{Detected}
 use Rattle.detect.proofs.Detect.{detects}
 use Rattle.ecss.specs.Frame.{statedOf}
 use Rattle.ecss.specs.Codec.{Codec, Packet, judge}
-use Rattle.exactness.specs.Changed.{Changed, Detected, differences, odd, burst}
+use Rattle.exactness.specs.Changed.{Changed, differences}
 use Rattle.exactness.proofs.Exact.{accepted}
 
 -- ---- the error that leads from one row of octets to another is their sum
@@ -36,14 +35,10 @@ add-back (x ∷ s) [] h = absurd (omega arith)
 add-back (x ∷ s) (y ∷ t) h =
     ap₂ _∷_ (sym (⊕-assoc x x y) ∙ ap (λ (z : ℕ). z ⊕ y) (⊕-self x) ∙ zero-⊕ y) (add-back s t (suc-inj h))
 
-error-of : (e : List ℕ) → Detected (bitsOf e) → Error e
-error-of e (odd h) = E.odd h
-error-of e (burst b) = E.burst b
-
 -- octets that differ so do not both verify
 pub not-both : (s t : List ℕ) → length s ≡ length t → Detected (differences s t) → crcOf s ≡ 0 → crcOf t ≡ 0 → ⊥
 not-both s t h d z z′ =
-    detects s (addOctets s t) (add-length s t h) z (error-of (addOctets s t) (subst Detected (sym (bitsOf-⊕ s t h)) d))
+    detects s (addOctets s t) (add-length s t h) z (subst Detected (sym (bitsOf-⊕ s t h)) d)
     (ap crcOf (add-back s t h) ∙ z′)
 
 -- ---- the verdict

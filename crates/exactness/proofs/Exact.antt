@@ -1,6 +1,6 @@
 -- The verdict accepts exactly the octets that begin with a written packet, and that packet is one: for every codec.
 use Prim.Native.Nat.{ℕ, suc, _+_, _-_, _≤_}
-use mathlib.Core.Path.{_≡_, refl, sym, ap, _∙_, subst}
+use mathlib.Core.Path.{_≡_, refl, sym, ap, ap₂, _∙_, subst}
 use mathlib.Core.Logic.{_↔_}
 use mathlib.Core.Bool.{true}
 use mathlib.Core.List.{List, _++_, append-assoc}
@@ -17,7 +17,7 @@ use Rattle.ecss.specs.Frame.{Octets, sealed, statedOf, frameOf, checkedOf}
 use Rattle.ecss.specs.Codec.{Codec, Laws, Packet, Written, startOf, contentOf, packetOf, secondaryOf, readAs, ruled, judge}
 use Rattle.ecss.proofs.Frames.{FrameIs, total-frame, checked-total, total-checked}
 use Rattle.ecss.proofs.Sealed.{sealed-length, sealed-verifies, verifies-sealed}
-use Rattle.exactness.proofs.Parts.{octets-drop, octets-take, take-two}
+use Rattle.ecss.proofs.Pieces.{Stated, primary-is, states, secondary-octets, secondary-is, data-is, closed-length, octets-drop, octets-take, packet-back}
 
 -- ---- what an accepting verdict says
 
@@ -51,71 +51,39 @@ agrees c s p h =
 
 -- ---- a written packet's pieces
 
-regroup : (a b u z rest : List ℕ) → (a ++ (b ++ u)) ++ z ++ rest ≡ a ++ (b ++ (u ++ (z ++ rest)))
-regroup a b u z rest = simp append-assoc
+stated : {H : Type 0} (c : Codec H) (s : List ℕ) (p : Packet H) (rest : List ℕ) → Written c s p rest → Stated c true p
+stated c s p rest w = record { in-range = w .in-range; beside = p .primary; strict = w .strict; states-length = w .states-length }
 
 module _ {H : Type 0} (c : Codec H) (s : List ℕ) (p : Packet H) (rest : List ℕ) (w : Written c s p rest) where
-  -- the checksum, and what follows the packet
-  after : List ℕ
-  after = be16 (crcOf (contentOf c p)) ++ rest
+  header-is : readHeader s ≡ p .primary
+  header-is = ap readHeader (w .octets) ∙ primary-is c true p rest (stated c s p rest w)
 
-  pieces : s ≡ headerOctets (p .primary) ++ (c .enc (p .secondary) ++ (p .user ++ after))
-  unfolding after sealed contentOf
-  pieces = w .octets ∙ regroup (headerOctets (p .primary)) (c .enc (p .secondary)) (p .user) (be16 (crcOf (contentOf c p))) rest
+  total-is : statedOf s ≡ startOf c + length (p .user) + 2
+  total-is = ap statedOf (w .octets) ∙ states c true p rest (stated c s p rest w)
 
-  primary-is : readHeader s ≡ p .primary
-  primary-is = ap readHeader pieces ∙ read-written (p .primary) (c .enc (p .secondary) ++ (p .user ++ after)) (w .in-range)
-
-  states : statedOf s ≡ totalOf (p .primary)
-  states = sym (stated-total s) ∙ ap totalOf primary-is
-
-  behind-primary : drop 6 s ≡ c .enc (p .secondary) ++ (p .user ++ after)
-  behind-primary =
-      ap (drop 6) pieces
-      ∙ drop-at (headerOctets (p .primary)) (c .enc (p .secondary) ++ (p .user ++ after)) 6 (length-headerOctets (p .primary))
-
--- the length field is two octets
-pub data-bound : {H : Type 0} (c : Codec H) (s : List ℕ) (p : Packet H) (rest : List ℕ) → Octets s → Written c s p rest → p .primary .«data_len» ≤ 65535
-data-bound c s p rest o w = omega (arith, o 4, o 5, states c s p rest w)
-
--- and so no packet is longer than 65,542 octets
+-- the length field is two octets, and so no packet is longer than 65,542 octets
 pub total-bound : {H : Type 0} (c : Codec H) (s : List ℕ) (p : Packet H) (rest : List ℕ) → Octets s → Written c s p rest → length (p .user) + (startOf c + 2) ≤ 65542
-total-bound c s p rest o w = omega (arith, data-bound c s p rest o w)
+total-bound c s p rest o w = omega (arith, o 4, o 5, total-is c s p rest w)
 
 -- ---- it is accepted
 
 module _ {H : Type 0} (c : Codec H) (k : Laws c) (s : List ℕ) (p : Packet H) (rest : List ℕ) (w : Written c s p rest) where
-  secondary-length : length (c .enc (p .secondary)) ≡ c .size
-  secondary-length = k .enc-size (p .primary) (p .secondary) (w .strict)
-
-  secondary-is : secondaryOf (c .size) s ≡ c .enc (p .secondary)
-  secondary-is =
-      ap (take (c .size)) (behind-primary c s p rest w)
-      ∙ take-at (c .enc (p .secondary)) (p .user ++ after c s p rest w) (c .size) secondary-length
-
-  behind-secondary : drop (startOf c) s ≡ p .user ++ after c s p rest w
-  behind-secondary =
-      sym (drop-drop (c .size) 6 s)
-      ∙ ap (drop (c .size)) (behind-primary c s p rest w)
-      ∙ drop-at (c .enc (p .secondary)) (p .user ++ after c s p rest w) (c .size) secondary-length
-
   packet-length : length (packetOf c p) ≡ statedOf s
-  unfolding contentOf
-  packet-length =
-      sealed-length (contentOf c p)
-      ∙ simp length-append (omega (arith, secondary-length, length-headerOctets (p .primary), states c s p rest w, w .states-length))
+  packet-length = closed-length c k true p rest (stated c s p rest w) ∙ sym (total-is c s p rest w)
 
   read-is : readAs c s (statedOf s) ≡ p
   unfolding readAs
   read-is =
-      let n : length (p .user) ≡ statedOf s - 2 - startOf c = omega (arith, states c s p rest w, w .states-length) in
-      let x : c .dec (secondaryOf (c .size) s) ≡ p .secondary = ap (c .dec) secondary-is ∙ k .dec-enc (p .primary) (p .secondary) (w .strict) in
-      let u : take (statedOf s - 2 - startOf c) (drop (startOf c) s) ≡ p .user =
-      ap (take (statedOf s - 2 - startOf c)) behind-secondary ∙ take-at (p .user) (after c s p rest w) (statedOf s - 2 - startOf c) n in
-      λ i. record { primary = primary-is c s p rest w i; secondary = x i; user = u i }
+      let v = stated c s p rest w in
+      let n : statedOf s - 2 - startOf c ≡ length (p .user) = omega (arith, total-is c s p rest w) in
+      let x = ap (λ (z : List ℕ). c .dec (secondaryOf (c .size) z)) (w .octets) ∙ secondary-is c k true p rest v in
+      let u = ap₂ (λ (m : ℕ) (z : List ℕ). take m (drop (startOf c) z)) n (w .octets) ∙ data-is c k true p rest v in
+      λ i. record { primary = header-is c s p rest w i; secondary = x i; user = u i }
 
   rule-is : c .rule (readHeader s) (secondaryOf (c .size) s) ≡ gives tt
-  rule-is = (λ i. c .rule (primary-is c s p rest w i) (secondary-is i)) ∙ k .rule-enc (p .primary) (p .secondary) (w .strict)
+  rule-is =
+      ap₂ (c .rule) (header-is c s p rest w) (ap (secondaryOf (c .size)) (w .octets) ∙ secondary-octets c k true p rest (stated c s p rest w))
+      ∙ k .rule-enc (p .primary) (p .secondary) (w .strict)
 
   verifies-is : crcOf (take (statedOf s) s) ≡ 0
   verifies-is =
@@ -123,20 +91,16 @@ module _ {H : Type 0} (c : Codec H) (k : Laws c) (s : List ℕ) (p : Packet H) (
       ∙ ap crcOf (take-at (packetOf c p) rest (statedOf s) packet-length)
       ∙ sealed-verifies (contentOf c p)
 
-  frame-is : FrameIs (startOf c) s true (statedOf s)
-  frame-is =
+  frame-stated : FrameIs (startOf c) s true (statedOf s)
+  frame-stated =
       let l : length s ≡ length (packetOf c p) + length rest = ap length (w .octets) ∙ length-append (packetOf c p) rest in
-      record {
-        is = refl;
-        room = omega (arith, states c s p rest w, w .states-length);
-        fits = omega (arith, packet-length);
-      }
+      record { is = refl; room = omega (arith, total-is c s p rest w); fits = omega (arith, packet-length) }
 
 -- written packets are accepted and reported as they were written, with anything after them
 pub complete : {H : Type 0} (c : Codec H) → Laws c → (s : List ℕ) (p : Packet H) (rest : List ℕ) → Written c s p rest → judge c s ≡ gives p
 unfolding judge
 complete c k s p rest w =
-    gives-then _ (ruled c s) (statedOf s) (total-checked (startOf c) s (statedOf s) (frame-is c k s p rest w) (verifies-is c k s p rest w))
+    gives-then _ (ruled c s) (statedOf s) (total-checked (startOf c) s (statedOf s) (frame-stated c k s p rest w) (verifies-is c k s p rest w))
     ∙ gives-then _ _ tt (rule-is c k s p rest w)
     ∙ ap gives (read-is c k s p rest w)
 
@@ -151,8 +115,8 @@ unique c k s p q rest rest′ w w′ =
 -- ---- what is accepted is a written packet
 
 module _ {H : Type 0} (c : Codec H) (k : Laws c) (s : List ℕ) (p : Packet H) (o : Octets s) (a : Accepted c s p) where
-  secondary-octets : Octets (secondaryOf (c .size) s)
-  secondary-octets = octets-take (c .size) (drop 6 s) (octets-drop 6 s o)
+  octets-read : Octets (secondaryOf (c .size) s)
+  octets-read = octets-take (c .size) (drop 6 s) (octets-drop 6 s o)
 
   secondary-size : length (secondaryOf (c .size) s) ≡ c .size
   secondary-size = length-take-le (c .size) (drop 6 s) (rw length-drop (omega arith))
@@ -160,39 +124,22 @@ module _ {H : Type 0} (c : Codec H) (k : Laws c) (s : List ℕ) (p : Packet H) (
   user-size : length (take (statedOf s - 2 - startOf c) (drop (startOf c) s)) ≡ statedOf s - 2 - startOf c
   user-size = length-take-le (statedOf s - 2 - startOf c) (drop (startOf c) s) (rw length-drop (omega arith))
 
-  content-back : contentOf c (readAs c s (statedOf s)) ≡ take (statedOf s - 2) s
-  unfolding readAs contentOf
-  content-back =
-      let u = take (statedOf s - 2 - startOf c) (drop (startOf c) s) in
-      let m : startOf c + (statedOf s - 2 - startOf c) ≡ statedOf s - 2 = omega arith in
-      sym (append-assoc (headerOctets (readHeader s)) (c .enc (c .dec (secondaryOf (c .size) s))) u)
-      ∙ ap (λ (x : List ℕ). x ++ c .enc (c .dec (secondaryOf (c .size) s)) ++ u) (written-read s (omega arith) o)
-      ∙ ap (λ (x : List ℕ). take 6 s ++ x ++ u) (k .enc-dec (readHeader s) (secondaryOf (c .size) s) secondary-octets secondary-size (a .passes))
-      ∙ ap (λ (x : List ℕ). x ++ u) (sym (take-add 6 (c .size) s))
-      ∙ sym (take-add (startOf c) (statedOf s - 2 - startOf c) s)
-      ∙ ap (λ (n : ℕ). take n s) m
-
-  packet-back : packetOf c (readAs c s (statedOf s)) ≡ take (statedOf s) s
-  packet-back =
-      let n = statedOf s - 2 in
-      let m : statedOf s ≡ n + 2 = omega arith in
-      let e : take (statedOf s) s ≡ take n s ++ _ = ap (λ (x : ℕ). take x s) m ∙ take-two s n (omega arith) in
-      ap sealed content-back
-      ∙ sym (e ∙ verifies-sealed (take n s) _ _ (o n) (o (suc n)) (sym (ap crcOf e) ∙ a .verifies))
+  whole-packet : packetOf c (readAs c s (statedOf s)) ≡ take (statedOf s) s
+  whole-packet = packet-back c k s (statedOf s) o (a .frame) (readHeader s) (a .passes) (a .verifies)
 
   written-back : Written c s (readAs c s (statedOf s)) (drop (statedOf s) s)
   unfolding readAs
   written-back =
       record {
         in-range = read-in-range s o;
-        strict = k .rule-dec (readHeader s) (secondaryOf (c .size) s) secondary-octets secondary-size (a .passes);
+        strict = k .rule-dec (readHeader s) (secondaryOf (c .size) s) octets-read secondary-size (a .passes);
         states-length = stated-total s ∙ omega (arith, user-size);
-        octets = sym (take-append-drop (statedOf s) s) ∙ ap (λ (x : List ℕ). x ++ drop (statedOf s) s) (sym packet-back);
+        octets = sym (take-append-drop (statedOf s) s) ∙ ap (λ (x : List ℕ). x ++ drop (statedOf s) s) (sym whole-packet);
       }
 
 -- read and written again, it is the same octets
 pub rewritten : {H : Type 0} (c : Codec H) → Laws c → (s : List ℕ) (p : Packet H) → Octets s → judge c s ≡ gives p → take (statedOf s) s ≡ packetOf c p
-rewritten c k s p o h = let a = accepted c s p h in sym (ap (packetOf c) (a .read) ∙ packet-back c k s p o a)
+rewritten c k s p o h = let a = accepted c s p h in sym (ap (packetOf c) (a .read) ∙ whole-packet c k s p o a)
 
 -- what is accepted begins with the packet that is reported, as the written rules make it
 pub sound : {H : Type 0} (c : Codec H) → Laws c → (s : List ℕ) (p : Packet H) → Octets s → judge c s ≡ gives p → (rest : List ℕ) × Written c s p rest

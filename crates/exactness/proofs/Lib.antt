@@ -1,4 +1,3 @@
-pub mod Parts
 pub mod Exact
 pub mod Places
 pub mod Changed

@@ -1,22 +1,17 @@
 -- Bits of a packet changed on its way, none of them in the length field. Bits count from the most significant bit of
 -- octet 0, in the order of transmission: bit k of octet i, from its most significant, is bit 8 * i + k.
-use Prim.Native.Nat.{ℕ, _%_}
+use Prim.Native.Nat.{ℕ}
 use mathlib.Core.Path.{_≡_}
 use mathlib.Core.Bool.{Bool}
 use mathlib.Core.List.{List}
 use lib.ListN.{getD, take}
 use Rattle.crc.specs.Crc.{bitsOf}
 use Rattle.crc.specs.Error.{addBits}
-use Rattle.detect.specs.Error.{ones, Burst}
+use Rattle.detect.specs.Error.{Detected}
 
 -- the row of bits that is set where the bits of two rows of octets differ
 abbrev pub differences : List ℕ → List ℕ → List Bool
 differences s s′ = addBits (bitsOf s) (bitsOf s′)
-
--- an odd number of bits, or one or more bits all within a run of 16 consecutive bits
-pub data Detected (bs : List Bool) : Type 0 where
-  odd : ones bs % 2 ≡ 1 → Detected bs
-  burst : Burst bs → Detected bs
 
 -- s′ agrees with s in octets 4 and 5, and differs from it so inside the first t octets, or as many as it has; what follows
 -- them is free

@@ -27,7 +27,7 @@ use Rattle.ecss.specs.declared.Crc16.{Crc16}
 use Rattle.ecss.specs.declared.Crc16.the-variants.{Some, None}
 use Rattle.tc_read.specs.declared.PusTcRecord.{PusTcRecord}
 use Rattle.tc_read.proofs.Records.{octet-six, read-is, checked-is, checked-read, raw-part}
-use Rattle.tc_read.proofs.Pieces.{Stated, primary-is, secondary-is, frame-is, data-is, stored-is, content-length, closed-length, packet-back}
+use Rattle.ecss.proofs.Pieces.{Stated, primary-is, secondary-is, frame-is, data-is, stored-is, content-length, closed-length, packet-back}
 
 -- a primary header of which the strict checks ask nothing more
 someCommand : SpacePacketHeader
@@ -85,7 +85,7 @@ unfolding recordOf
 record-is b p rest r =
     let w = stated b p r in
     let e : 11 + length (p .user) + trailer b - trailer b ≡ 11 + length (p .user) = omega arith in
-    λ i. record { «sp_header» = primary-is pusC laws b p rest w i; «sec_header» = secondary-is pusC laws b p rest w i; start = 11; end = e i; total = 11 + length (p .user) + trailer b; crc16 = crc-is b p rest r i }
+    λ i. record { «sp_header» = primary-is pusC b p rest w i; «sec_header» = secondary-is pusC laws b p rest w i; start = 11; end = e i; total = 11 + length (p .user) + trailer b; crc16 = crc-is b p rest r i }
 
 -- with the choice of checksum that it was written with, and anything after it
 pub read-written : (b : Bool) (p : Packet PusTcSecondaryHeader) (rest : List ℕ) → Readable b p → readOf (closed b (contentOf pusC p) ++ rest) b ≡ gives (reportOf b p)

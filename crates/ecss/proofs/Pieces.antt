@@ -45,7 +45,7 @@ pub record Stated {H : Type 0} (c : Codec H) (b : Bool) (p : Packet H) : Type 0 
   pub strict : c .Strict beside (p .secondary)
   pub states-length : totalOf (p .primary) ≡ startOf c + length (p .user) + trailer b
 
-module _ {H : Type 0} (c : Codec H) (k : Laws c) (b : Bool) (p : Packet H) (rest : List ℕ) (w : Stated c b p) where
+module _ {H : Type 0} (c : Codec H) (b : Bool) (p : Packet H) (rest : List ℕ) (w : Stated c b p) where
   -- the octets, and what follows the data in them
   abbrev pub octetsOf : List ℕ
   octetsOf = closed b (contentOf c p) ++ rest
@@ -62,26 +62,29 @@ module _ {H : Type 0} (c : Codec H) (k : Laws c) (b : Bool) (p : Packet H) (rest
   pub primary-is : readHeader octetsOf ≡ p .primary
   primary-is = ap readHeader pieces ∙ read-written (p .primary) (c .enc (p .secondary) ++ (p .user ++ after)) (w .in-range)
 
-  states : statedOf octetsOf ≡ startOf c + length (p .user) + trailer b
+  pub states : statedOf octetsOf ≡ startOf c + length (p .user) + trailer b
   states = sym (stated-total octetsOf) ∙ ap totalOf primary-is ∙ w .states-length
 
   behind-primary : drop 6 octetsOf ≡ c .enc (p .secondary) ++ (p .user ++ after)
   behind-primary =
       ap (drop 6) pieces ∙ drop-at (headerOctets (p .primary)) (c .enc (p .secondary) ++ (p .user ++ after)) 6 (length-headerOctets (p .primary))
 
+module _ {H : Type 0} (c : Codec H) (k : Laws c) (b : Bool) (p : Packet H) (rest : List ℕ) (w : Stated c b p) where
   secondary-length : length (c .enc (p .secondary)) ≡ c .size
   secondary-length = k .enc-size (w .beside) (p .secondary) (w .strict)
 
-  pub secondary-is : c .dec (secondaryOf (c .size) octetsOf) ≡ p .secondary
-  secondary-is =
-      ap (λ (l : List ℕ). c .dec (take (c .size) l)) behind-primary
-      ∙ ap (c .dec) (take-at (c .enc (p .secondary)) (p .user ++ after) (c .size) secondary-length)
-      ∙ k .dec-enc (w .beside) (p .secondary) (w .strict)
+  pub secondary-octets : secondaryOf (c .size) (octetsOf c b p rest w) ≡ c .enc (p .secondary)
+  secondary-octets =
+      ap (take (c .size)) (behind-primary c b p rest w)
+      ∙ take-at (c .enc (p .secondary)) (p .user ++ after c b p rest w) (c .size) secondary-length
 
-  behind-secondary : drop (startOf c) octetsOf ≡ p .user ++ after
+  pub secondary-is : c .dec (secondaryOf (c .size) (octetsOf c b p rest w)) ≡ p .secondary
+  secondary-is = ap (c .dec) secondary-octets ∙ k .dec-enc (w .beside) (p .secondary) (w .strict)
+
+  behind-secondary : drop (startOf c) (octetsOf c b p rest w) ≡ p .user ++ after c b p rest w
   behind-secondary =
-      sym (drop-drop (c .size) 6 octetsOf) ∙ ap (drop (c .size)) behind-primary
-      ∙ drop-at (c .enc (p .secondary)) (p .user ++ after) (c .size) secondary-length
+      sym (drop-drop (c .size) 6 (octetsOf c b p rest w)) ∙ ap (drop (c .size)) (behind-primary c b p rest w)
+      ∙ drop-at (c .enc (p .secondary)) (p .user ++ after c b p rest w) (c .size) secondary-length
 
   pub content-length : length (contentOf c p) ≡ startOf c + length (p .user)
   unfolding contentOf
@@ -90,13 +93,13 @@ module _ {H : Type 0} (c : Codec H) (k : Laws c) (b : Bool) (p : Packet H) (rest
   pub closed-length : length (closed b (contentOf c p)) ≡ startOf c + length (p .user) + trailer b
   closed-length = ap length (closed-is b (contentOf c p)) ∙ simp length-append (omega (arith, content-length, trailer-length b (contentOf c p)))
 
-  pub frame-is : FrameIs (startOf c) octetsOf b (startOf c + length (p .user) + trailer b)
+  pub frame-is : FrameIs (startOf c) (octetsOf c b p rest w) b (startOf c + length (p .user) + trailer b)
   frame-is =
       let l = length-append (closed b (contentOf c p)) rest in
-      record { is = sym states; room = omega arith; fits = omega (arith, closed-length) }
+      record { is = sym (states c b p rest w); room = omega arith; fits = omega (arith, closed-length) }
 
-  pub data-is : take (length (p .user)) (drop (startOf c) octetsOf) ≡ p .user
-  data-is = ap (take (length (p .user))) behind-secondary ∙ take-at (p .user) after (length (p .user)) refl
+  pub data-is : take (length (p .user)) (drop (startOf c) (octetsOf c b p rest w)) ≡ p .user
+  data-is = ap (take (length (p .user))) behind-secondary ∙ take-at (p .user) (after c b p rest w) (length (p .user)) refl
 
 -- the checksum that sealed octets store
 pub stored-is : (l rest : List ℕ) (n : ℕ) → n ≡ length l + 2 → storedOf (sealed l ++ rest) n ≡ crcOf l
@@ -110,10 +113,10 @@ stored-is l rest n e =
 
 -- ---- read, then written
 
-octets-drop : (k : ℕ) (s : List ℕ) → Octets s → Octets (drop k s)
+pub octets-drop : (k : ℕ) (s : List ℕ) → Octets s → Octets (drop k s)
 octets-drop k s o i = subst (λ (x : ℕ). x < 256) (sym (getD-drop k s i 0)) (o (k + i))
 
-octets-take : (k : ℕ) (s : List ℕ) → Octets s → Octets (take k s)
+pub octets-take : (k : ℕ) (s : List ℕ) → Octets s → Octets (take k s)
 octets-take zero s o i = lit< tt
 octets-take (suc k) [] o i = lit< tt
 octets-take (suc k) (x ∷ s) o zero = o 0
