@@ -1,6 +1,6 @@
 // What the benchmark links: the public calls whose time it takes, for a caller in C.
 ghost use mathlib.Core.Path.{_≡_};
-ghost use Rattle.crc.specs.Crc.{crcOf};
+ghost use Rattle.crc_step.specs.Crc.{crcOf};
 
 #[no_mangle]
 pub extern "C" fn port_table(data: &[u8]) -> u16

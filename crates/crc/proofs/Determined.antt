@@ -3,7 +3,7 @@
 use mathlib.Core.Path.{_≡_, sym, _∙_}
 use mathlib.Core.List.{List, []}
 use Prim.Native.Nat.{ℕ}
-use Rattle.crc.specs.Crc.{crcOf}
+use Rattle.crc_step.specs.Crc.{crcOf}
 use Rattle.crc.specs.Digest.{digestOf, taken, checksumHeld}
 use Rattle.crc.specs.declared.Digest.{Digest}
 

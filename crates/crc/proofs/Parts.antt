@@ -1,12 +1,11 @@
 -- The digest's law: a list in two parts gives what the whole gives.
 -- Assumes nothing.
-use mathlib.Core.Path.{_≡_, refl, sym, ap}
+use mathlib.Core.Path.{_≡_, sym, ap}
 use mathlib.Core.List.{List, [], _++_}
 use Prim.Native.Nat.{ℕ}
-use Rattle.crc.specs.Crc.{crcOf}
-use Rattle.crc.specs.Digest.{digestOf, taken, checksumHeld}
+use Rattle.crc.specs.Digest.{digestOf, taken}
 use Rattle.crc.specs.declared.Digest.{Digest}
-use Rattle.crc.proofs.Linear.{crcFrom-nil, crcFrom-++}
+use Rattle.crc_step.proofs.Linear.{crcFrom-nil, crcFrom-++}
 
 -- a digest by its register
 abbrev pub holding : ℕ → Digest
@@ -18,6 +17,3 @@ digest-none = ap holding (sym (crcFrom-nil 65535))
 -- the octets s after the octets l
 pub digest-parts : (l s : List ℕ) → taken (digestOf l) s ≡ digestOf (l ++ s)
 digest-parts l s = ap holding (sym (crcFrom-++ 65535 l s))
-
-pub digest-held : (l : List ℕ) → checksumHeld (digestOf l) ≡ crcOf l
-digest-held l = refl

@@ -1,6 +1,6 @@
 -- The cases at the edges hold: each is computed from the definitions.
 use mathlib.Core.Path.{refl}
-use Rattle.crc.specs.Crc.{_⊕_, bit, shiftIn, run, octetBits, bitsOf, crcFrom}
+use Rattle.crc_step.specs.Crc.{_⊕_, bit, shiftIn, run, octetBits, bitsOf, crcFrom}
 use Rattle.space_packet.specs.Answer.{refuseIf, _then_}
 use Rattle.space_packet.specs.Fields.{idOf, pscOf}
 use Rattle.space_packet.specs.Header.{readHeader}

@@ -3,10 +3,8 @@ use mathlib.Core.Path.{_≡_}
 use mathlib.Core.Bool.{true, false}
 use mathlib.Core.List.{List, [], _∷_, _++_}
 use Prim.Native.Nat.{ℕ}
-use lib.ListN.{replicate}
-use Rattle.crc.specs.Crc.{crcOf}
-use Rattle.space_packet.specs.Answer.{Answer, gives, refuses, no}
-use Rattle.space_packet.specs.Fields.{idOf, pscOf}
+use Rattle.crc_step.specs.Crc.{crcOf}
+use Rattle.space_packet.specs.Answer.{gives, refuses, no}
 use Rattle.ecss.specs.Write.{lengthField}
 use Rattle.ecss.specs.declared.PusVersion.the-variants.{PusC}
 use Rattle.tc_read.specs.Read.{readOf, checkedRead}
@@ -17,7 +15,7 @@ use Rattle.space_packet.specs.declared.SequenceFlags.the-variants.{Unsegmented}
 use Rattle.space_packet.specs.declared.SpacePacketHeader.{SpacePacketHeader}
 use Rattle.strict.specs.Verdict.{strictOf}
 
--- a ping command's octets before the last, with the length field n: 19 23 C0 05 00 n 2F 11 01 00 00
+-- a ping command's octets before the checksum, with the length field n: 19 23 C0 05 00 n 2F 11 01 00 00
 abbrev pub ping : ℕ → List ℕ
 ping n = 0x19 ∷ 0x23 ∷ 0xC0 ∷ 0x05 ∷ 0x00 ∷ n ∷ 0x2F ∷ 0x11 ∷ 0x01 ∷ 0x00 ∷ 0x00 ∷ []
 

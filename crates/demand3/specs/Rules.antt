@@ -4,7 +4,7 @@ use mathlib.Core.Path.{_≡_}
 use mathlib.Core.Bool.{true}
 use mathlib.Core.List.{List, _++_}
 use lib.ListN.{length, drop}
-use Rattle.crc.specs.Crc.{crcOf}
+use Rattle.crc_step.specs.Crc.{crcOf}
 use Rattle.space_packet.specs.Answer.{gives}
 use Rattle.space_packet.specs.Header.{InRange, totalOf}
 use Rattle.space_packet.specs.Wrote.{Wrote}

@@ -5,11 +5,11 @@ use mathlib.Core.Path.{_≡_, sym, ap, _∙_}
 use mathlib.Core.List.{List}
 use Prim.Native.Nat.{ℕ}
 use lib.ListN.{length}
-use Rattle.crc.specs.Crc.{_⊕_, run, bitsOf, crcFrom, crcOf}
-use Rattle.crc.specs.Error.{addOctets}
+use Rattle.crc_step.specs.Crc.{_⊕_, run, bitsOf, crcFrom, crcOf}
+use Rattle.crc_step.specs.Error.{addOctets}
 use Rattle.detect.specs.Error.{Detected, odd, burst}
-use Rattle.crc.proofs.Xor.{zero-⊕}
-use Rattle.crc.proofs.Linear.{crcOf-⊕}
+use Rattle.crc_step.proofs.Xor.{zero-⊕}
+use Rattle.crc_step.proofs.Linear.{crcOf-⊕}
 use Rattle.detect.proofs.Parity.{odd-leaves}
 use Rattle.detect.proofs.Burst.{burst-leaves}
 

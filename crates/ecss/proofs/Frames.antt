@@ -9,7 +9,7 @@ use lib.Dec.{lit≤}
 use borrow.Author.Tests.{ltb-false, le-ltb, eq-eqb, eqb-true, not-false}
 use Rattle.space_packet.specs.Answer.{gives}
 use Rattle.space_packet.proofs.Answers.{gives-inj, refuse-no, refuse-gives, then-gives, gives-then}
-use Rattle.crc.specs.Crc.{crcOf}
+use Rattle.crc_step.specs.Crc.{crcOf}
 use Rattle.ecss.specs.Frame.{trailer, statedOf, storedOf, roomFor, frameOf, verified, checkedOf}
 use Rattle.ecss.specs.Write.{totalFor, lengthOf, lengthField, inBuffer, writeIn}
 

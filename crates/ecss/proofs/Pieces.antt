@@ -12,7 +12,7 @@ use Rattle.space_packet.specs.Answer.{gives}
 use Rattle.space_packet.specs.Header.{InRange, headerOctets, readHeader, totalOf}
 use Rattle.space_packet.specs.declared.SpacePacketHeader.{SpacePacketHeader}
 use Rattle.space_packet.proofs.RoundTrip.{read-written, written-read, stated-total, length-headerOctets}
-use Rattle.crc.specs.Crc.{crcOf}
+use Rattle.crc_step.specs.Crc.{crcOf}
 use Rattle.ecss.specs.Frame.{Octets, trailer, sealed, closed, statedOf, storedOf}
 use Rattle.ecss.specs.Codec.{Codec, Laws, Packet, startOf, contentOf, packetOf, secondaryOf, readAs}
 use Rattle.ecss.proofs.Frames.{FrameIs}

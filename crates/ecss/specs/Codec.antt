@@ -78,7 +78,8 @@ judge c s = checkedOf (startOf c) s then ruled c s
 
 -- ---- the strict checks of a telecommand, over its PUS version
 
--- packet version number 0, a telecommand, a secondary header, and the version in the higher half of octet 6
+-- CCSDS 133.0-B-2, 4.1.3.2 and 4.1.3.3: packet version number 0, a telecommand, a secondary header; ECSS-E-ST-70-41C, 7.4.4: the
+-- PUS version in the higher half of octet 6
 unfoldable pub commandRule : ℕ → SpacePacketHeader → ℕ → Passed
 commandRule version h octet =
     refuseIf (not (eqb (h .version) 0)) (no 9 (h .version ∷ []))

@@ -6,13 +6,13 @@ use lib.ListN.{length, getD, take, drop}
 use lib.Dec.{ltb, eqb}
 use Rattle.space_packet.specs.Bits.{be16, word}
 use Rattle.space_packet.specs.Answer.{Answer, Passed, no, gives, refuses, refuseIf, _then_}
-use Rattle.crc.specs.Crc.{crcOf}
+use Rattle.crc_step.specs.Crc.{crcOf}
 
 -- numbers that are octets
 abbrev pub Octets : List ℕ → Type 0
 Octets s = (i : ℕ) → getD s i 0 < 256
 
--- ---- the packet error control, ECSS-E-ST-70-41C, 7.4.3.3 and 7.4.4.3: the last two octets, where there is one
+-- ---- the packet error control of the user data field, ECSS-E-ST-70-41C, 7.4.3 and 7.4.4: the last two octets, where there is one
 
 abbrev pub trailer : Bool → ℕ
 trailer true = 2
@@ -37,7 +37,7 @@ verified s stored = refuseIf (not (verifies s)) (no 4 (stored ∷ [])) (gives tt
 
 -- ---- reading
 
--- CCSDS 133.0-B, 4.1.3.5.3: the total that the length field states
+-- CCSDS 133.0-B-2, 4.1.3.5, packet data length: the total that the length field states
 abbrev pub statedOf : List ℕ → ℕ
 statedOf s = word s 4 + 7
 

@@ -12,7 +12,7 @@ use Rattle.ecss.specs.declared.MessageTypeId.{MessageTypeId}
 use Rattle.ecss.specs.declared.CreatorConfig.{CreatorConfig}
 use Rattle.ecss.specs.declared.PusVersionResult.the-variants as R
 
--- ECSS-E-ST-70-41C, 7.4.4.1: this standard's version number is 2; ECSS-E-70-41A's is 1, and the ESA standard's before it 0
+-- ECSS-E-ST-70-41C, 7.4.4, TC packet PUS version number: this standard's version number is 2; ECSS-E-70-41A's is 1, and the ESA standard's before it 0
 abbrev pub versionNumber : PusVersion → ℕ
 versionNumber EsaPus = 0
 versionNumber PusA = 1

@@ -2,7 +2,6 @@
 use Prim.Native.Nat.{ℕ, _+_, _-_}
 use mathlib.Core.Bool.{Bool}
 use mathlib.Core.List.{[], _∷_}
-use lib.ListN.{length}
 use lib.Dec.{ltb}
 use Rattle.space_packet.specs.Answer.{Answer, no, gives, refuses, refuseIf, _then_, numbersOf}
 use Rattle.ecss.specs.Frame.{trailer}
@@ -22,7 +21,7 @@ lengthOf start b n =
 abbrev pub limited : ℕ → ℕ → Answer ℕ
 limited n total = refuseIf (ltb 65542 total) (no 6 (n ∷ [])) (gives total)
 
--- CCSDS 133.0-B, 4.1.3.5.3: the length field of that total
+-- CCSDS 133.0-B-2, 4.1.3.5, packet data length: the field of that total, which for a packet is at least 7
 unfoldable pub lengthField : ℕ → Bool → ℕ → Answer ℕ
 lengthField start b n = lengthOf start b n then λ total. limited n total then λ _. gives (total - 7)
 

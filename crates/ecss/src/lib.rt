@@ -2,7 +2,6 @@
 // its frame.
 ghost use mathlib.Core.Path.{_≡_};
 ghost use Rattle.space_packet.specs.Answer.{checkAnswer};
-ghost use Rattle.crc.specs.Crc.{crcOf};
 ghost use Rattle.ecss.specs.Version.{versionNumber, versionAnswer, versionOf, messageType, defaultConfig};
 ghost use Rattle.ecss.specs.Frame.{verifies, verified};
 ghost use Rattle.ecss.specs.Codec.{commandRule};

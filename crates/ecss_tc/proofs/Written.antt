@@ -8,7 +8,7 @@ use lib.ListN.{length, take, drop, length-append, length-take, length-drop}
 use lib.Seq.{take-at, drop-drop, drop-append-add}
 use borrow.Author.Tests.{le-ltb}
 use borrow.Rule.Slice.PartMut.{putMid}
-use Rattle.crc.specs.Crc.{crcOf}
+use Rattle.crc_step.specs.Crc.{crcOf}
 use Rattle.crc.specs.Digest.{digestOf, taken, checksumHeld}
 use Rattle.crc.specs.declared.Digest.{Digest}
 use Rattle.crc.proofs.Parts.{digest-parts}

@@ -3,7 +3,7 @@ use Prim.Native.Nat.{ℕ, _-_}
 use mathlib.Core.Bool.{Bool, true, _&&_}
 use mathlib.Core.List.{List}
 use lib.Dec.{eqb}
-use Rattle.crc.specs.Crc.{crcOf}
+use Rattle.crc_step.specs.Crc.{crcOf}
 use Rattle.space_packet.specs.Bits.{pick, flagNumber}
 use Rattle.space_packet.specs.Answer.{Answer, Passed, Kept, gives, refuses, _then_, setIf, numbersOf, checkAnswer}
 use Rattle.space_packet.specs.Header.{headerCheck, headerOf, idFrom, withId, sameHeader}

@@ -7,10 +7,10 @@ use native.Mathlib.Nat.{suc-inj}
 use lib.ListN.{length, take}
 use lib.Seq.{length-take-le}
 use Rattle.space_packet.specs.Answer.{Answer, Numbers, gives, refuses}
-use Rattle.crc.specs.Crc.{_⊕_, crcOf}
-use Rattle.crc.specs.Error.{addOctets}
-use Rattle.crc.proofs.Xor.{⊕-assoc, ⊕-self, zero-⊕}
-use Rattle.crc.proofs.Linear.{bitsOf-⊕}
+use Rattle.crc_step.specs.Crc.{_⊕_, crcOf}
+use Rattle.crc_step.specs.Error.{addOctets}
+use Rattle.crc_step.proofs.Xor.{⊕-assoc, ⊕-self, zero-⊕}
+use Rattle.crc_step.proofs.Linear.{bitsOf-⊕}
 use Rattle.detect.specs.Error.{Detected}
 use Rattle.detect.proofs.Detect.{detects}
 use Rattle.ecss.specs.Frame.{statedOf}

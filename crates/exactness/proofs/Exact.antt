@@ -12,7 +12,7 @@ use Rattle.space_packet.specs.Header.{headerOctets, readHeader, totalOf}
 use Rattle.space_packet.specs.Answer.{gives}
 use Rattle.space_packet.proofs.Answers.{gives-inj, then-gives, gives-then}
 use Rattle.space_packet.proofs.RoundTrip.{read-written, written-read, read-in-range, stated-total, length-headerOctets}
-use Rattle.crc.specs.Crc.{crcOf}
+use Rattle.crc_step.specs.Crc.{crcOf}
 use Rattle.ecss.specs.Frame.{Octets, sealed, statedOf, frameOf, checkedOf}
 use Rattle.ecss.specs.Codec.{Codec, Laws, Packet, Written, startOf, contentOf, packetOf, secondaryOf, readAs, ruled, judge}
 use Rattle.ecss.proofs.Frames.{FrameIs, total-frame, checked-total, total-checked}

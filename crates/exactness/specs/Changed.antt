@@ -5,8 +5,8 @@ use mathlib.Core.Path.{_≡_}
 use mathlib.Core.Bool.{Bool}
 use mathlib.Core.List.{List}
 use lib.ListN.{getD, take}
-use Rattle.crc.specs.Crc.{bitsOf}
-use Rattle.crc.specs.Error.{addBits}
+use Rattle.crc_step.specs.Crc.{bitsOf}
+use Rattle.crc_step.specs.Error.{addBits}
 use Rattle.detect.specs.Error.{Detected}
 
 -- the row of bits that is set where the bits of two rows of octets differ

@@ -1,5 +1,5 @@
 -- The splitter: a capture as a row of packets, each judged alone, and a tail.
-use Prim.Native.Nat.{ℕ, zero, suc, _+_, _-_}
+use Prim.Native.Nat.{ℕ, zero, suc, _+_}
 use mathlib.Core.Bool.{Bool, _||_}
 use mathlib.Core.List.{List, [], _∷_}
 use lib.ListN.{length, take, drop}
@@ -45,14 +45,16 @@ stepAnswer S.End = end
 stepAnswer (S.Packet at n v next) = piece (packet at n (verdictAnswer v)) (next .at)
 stepAnswer (S.Tail at n next) = piece (tail at n) (next .at)
 
--- the whole walk, from the octet `at` on; `turns` is no fewer than the octets that remain
+-- a piece, and the walk on from behind it
 abbrev pub continue : Next → (ℕ → List Piece) → List Piece
 continue end walk = []
 continue (piece p next) walk = p ∷ walk next
 
+-- the walk from the octet `at` on; `turns` is no fewer than the octets that remain
 unfoldable pub walkFrom : ℕ → List ℕ → ℕ → List Piece
 walkFrom zero s at = []
 walkFrom (suc turns) s at = continue (stepOf s at) (walkFrom turns s)
 
+-- the whole walk
 abbrev pub walk : List ℕ → List Piece
 walk s = walkFrom (length s) s 0

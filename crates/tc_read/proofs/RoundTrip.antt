@@ -12,7 +12,7 @@ use Rattle.space_packet.specs.declared.SpacePacketHeader.{SpacePacketHeader}
 use Rattle.space_packet.specs.declared.PacketType.the-variants.{Tc}
 use Rattle.space_packet.specs.declared.SequenceFlags.the-variants.{Unsegmented}
 use Rattle.space_packet.proofs.Answers.{gives-then}
-use Rattle.crc.specs.Crc.{crcOf}
+use Rattle.crc_step.specs.Crc.{crcOf}
 use Rattle.ecss.specs.Frame.{Octets, trailer, closed, frameOf, checkedOf, rawPart, dataPart}
 use Rattle.ecss.specs.Codec.{Packet, Command, contentOf, readAs}
 use Rattle.ecss.specs.declared.PusVersion.the-variants.{PusC}

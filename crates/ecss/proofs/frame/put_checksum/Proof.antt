@@ -3,7 +3,7 @@ use native.Mathlib.Numerals.{add-one}
 use lib.Seq.{sets-eq}
 use lib.ListN.{take, length-set}
 use Rattle.space_packet.specs.Bits.{be16}
-use Rattle.crc.specs.Crc.{crcOf}
+use Rattle.crc_step.specs.Crc.{crcOf}
 use Rattle.ecss.specs.Frame.{sealed}
 use borrow.Author.Needs.{needs}
 use Rattle.ecss.proofs.frame.put_checksum.Statement.{statement}

@@ -1,0 +1,4 @@
+mod Basis
+mod Rows
+mod Fold
+mod Word

@@ -1,0 +1,18 @@
+-- `crc_fold::words::word_in` meets its contract.
+use mathlib.Core.Path.{_∙_}
+use native.Mathlib.Omega.{arith}
+use borrow.Author.Needs.{needs}
+use Rattle.crc_step.specs.Crc.{_⊕_}
+use Rattle.crc_fold.proofs.Word.{met8}
+use Rattle.crc_fold.proofs.words.word_in.Statement.{statement}
+use Rattle.crc_fold.proofs.words.word_in.Tie as tie
+
+reduced-requires : tie.Need-reduced-requires
+reduced-requires c κs = search needs
+
+returns : tie.Need-returns
+unfolding _⊕_
+returns c = c .reduced .ensures ∙ met8 (c .before .args .r) (c .before .args .w) (omega arith)
+
+pub word-in-spec : {M : Type 1} → statement M
+word-in-spec = tie.close (tie.spec reduced-requires returns)

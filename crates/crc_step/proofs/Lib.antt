@@ -1,0 +1,8 @@
+pub mod Xor
+pub mod Below
+pub mod Linear
+pub mod Octet
+pub mod Zeros
+pub mod Residue
+pub mod Division
+pub mod Remainder
