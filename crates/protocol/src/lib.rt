@@ -3,6 +3,7 @@
 mod checksum;
 mod fields;
 mod header;
+mod items;
 mod read;
 mod show;
 mod verdict;
@@ -10,78 +11,87 @@ mod write;
 
 ghost use mathlib.Core.Path.{_≡_};
 ghost use lib.ListN.{length};
-use text::Value;
 
-// The requests that have octets for their only field come first.
-const DATA_KINDS: usize = 4;
+// The requests before this one only read.
+const SPHWRITE: usize = 8;
 
 // Answers a line. a and b are room for the octets that its fields write.
-fn answer(line: &[u8], a: &mut [u8], b: &mut [u8], out: &mut [u8], at: usize) -> usize {
-    let at = show::room(out, at);
-    let kind = fields::place(
+fn answer(line: &[u8], a: &mut [u8], b: &mut [u8]) {
+    reply(kind(line), line, a, b);
+    show::say(b"\n");
+}
+
+// The place of a request's first word among these, or how many there are.
+fn kind(line: &[u8]) -> usize {
+    fields::place(
         text::piece(line, 32, 0),
-        b"crc sphread strict split verify sphwrite ack consts read cmprr create build reserve cmprc simple",
+        b"crc sphread strict split verify ack read cmprr sphwrite create build reserve cmprc simple consts",
+    )
+}
+
+fn reply(kind: usize, line: &[u8], a: &mut [u8], b: &mut [u8]) {
+    let mut v = [0u64; 18];
+    if asked(kind, line, &mut v, a, b) {
+        return answer_to(kind, line, v, text::part(a, 0, v[fields::DATA] as usize), b);
+    }
+    show::bad()
+}
+
+// Whether a line has the fields that its kind asks; they are in the order of the kinds.
+fn asked(kind: usize, line: &[u8], v: &mut [u64; 18], a: &mut [u8], b: &mut [u8]) -> bool {
+    let form = text::piece(
+        b"a a a a ac 3 ma manb 0b 0122aeb tab 0152azb mb0122ae 433",
+        32,
+        kind,
     );
-    let at = answer_to(kind, line, a, b, out, at);
-    text::put(out, at, 10)
+    fields::read(form, line, v, a, b)
 }
 
-fn answer_to(
-    kind: usize,
-    line: &[u8],
-    a: &mut [u8],
-    b: &mut [u8],
-    out: &mut [u8],
-    at: usize,
-) -> usize {
-    if kind < DATA_KINDS {
-        return on_data(kind, line, a, out, at);
+fn answer_to(kind: usize, line: &[u8], v: [u64; 18], data: &[u8], b: &mut [u8]) {
+    let n = v[fields::BUF] as usize;
+    if kind < SPHWRITE {
+        return reads(kind, v, data, text::part(b, 0, n));
     }
+    if b.len() <= n {
+        return writes(kind, line, v, data, b);
+    }
+    writes(kind, line, v, data, &mut b[0..n])
+}
+
+fn reads(kind: usize, v: [u64; 18], data: &[u8], other: &[u8]) {
     match kind {
-        4 => checksum::verify(line, a, out, at),
-        5 => header::write(line, b, out, at),
-        6 => header::ack(line, out, at),
-        7 => header::consts(line, out, at),
-        8 => read::read(line, a, out, at),
-        9 => read::compare(line, a, b, out, at),
-        10 => write::create(line, a, b, out, at),
-        11 => write::build(line, a, b, out, at),
-        12 => write::reserve(line, a, b, out, at),
-        13 => write::compare(line, a, b, out, at),
-        14 => write::simple(line, b, out, at),
-        _ => show::bad(out, at),
+        0 => checksum::checksum(data),
+        1 => header::read(data),
+        2 => verdict::judge(data),
+        3 => verdict::split(data),
+        4 => checksum::verify(v, data),
+        5 => header::ack(v),
+        6 => read::read(v, data),
+        _ => read::compare(v, data, other),
     }
 }
 
-fn on_data(kind: usize, line: &[u8], a: &mut [u8], out: &mut [u8], at: usize) -> usize {
-    let v = fields::octets(line, 2, 1, a);
-    let Value::Is(n) = v else {
-        return show::bad(out, at);
-    };
-    let s = text::part(a, 0, n as usize);
+fn writes(kind: usize, line: &[u8], v: [u64; 18], data: &[u8], buf: &mut [u8]) {
     match kind {
-        0 => checksum::checksum(s, out, at),
-        1 => header::read(s, out, at),
-        2 => verdict::judge(s, out, at),
-        _ => verdict::split(s, out, at),
+        8 => header::write(v, buf),
+        9 => write::create(line, v, data, buf),
+        10 => write::build(line, v, data, buf),
+        11 => write::reserve(v, data, buf),
+        12 => write::compare(line, v, data, buf),
+        13 => write::simple(v),
+        14 => header::consts(),
+        _ => show::bad(),
     }
 }
 
 // ---- the lines of an input
 
-// How many octets of the buffer are not answered yet, the place in the answers, whether the rest of a line that is
-// too long is being passed over, and whether there may be more to read.
+// How many octets of the buffer are not answered yet, whether the rest of a line that is too long is being passed over, and
+// whether there may be more to read.
 struct Feed {
     held: usize,
-    at: usize,
     skip: bool,
     more: bool,
-}
-
-// Where the next line starts, and the place in the answers.
-struct Done {
-    from: usize,
-    at: usize,
 }
 
 // Where the first line starts that is not passed over: past the end where s has no end of a line.
@@ -96,19 +106,18 @@ fn first(s: &[u8], skip: bool) -> usize {
     0
 }
 
-// Answers each whole line of s from `from` on.
-fn lines(s: &[u8], from: usize, a: &mut [u8], b: &mut [u8], out: &mut [u8], at: usize) -> Done {
+// Answers each whole line of s from `from` on, and tells where the next line starts.
+fn lines(s: &[u8], from: usize, a: &mut [u8], b: &mut [u8]) -> usize {
     let mut from = from;
-    let mut at = at;
     while from < s.len() {
         let e = text::seek(s, from, 10);
         if s.len() <= e {
-            return Done { from, at };
+            return from;
         }
-        at = answer(text::part(s, from, e), a, b, out, at);
+        answer(text::part(s, from, e), a, b);
         from = e + 1;
     }
-    Done { from, at }
+    from
 }
 
 // Reads once after the octets that are held, and answers how many are held then.
@@ -136,68 +145,57 @@ fn keep(buf: &mut [u8], from: usize, n: usize) -> usize {
 }
 
 // A line whose end has not come is kept. One that fills the buffer is too long, and no request.
-fn kept(buf: &mut [u8], n: usize, out: &mut [u8], d: Done) -> Feed {
-    let held = keep(buf, d.from, n);
+fn kept(buf: &mut [u8], from: usize, n: usize) -> Feed {
+    let held = keep(buf, from, n);
     if held < buf.len() {
-        let at = show::flush(out, d.at);
         return Feed {
             held,
-            at,
-            skip: n < d.from,
+            skip: n < from,
             more: true,
         };
     }
-    let at = show::bad(out, d.at);
-    let at = text::put(out, at, 10);
+    show::say(b"bad-request\n");
     Feed {
         held: 0,
-        at,
         skip: true,
         more: true,
     }
 }
 
 // At the end of the input the octets that are held, if there are any, are one more line.
-fn rest(s: &[u8], a: &mut [u8], b: &mut [u8], out: &mut [u8], at: usize) -> usize {
-    if s.len() == 0 {
-        return at;
+fn last(s: &[u8], a: &mut [u8], b: &mut [u8]) -> Feed {
+    if s.len() > 0 {
+        answer(s, a, b);
     }
-    answer(s, a, b, out, at)
-}
-
-fn last(buf: &[u8], a: &mut [u8], b: &mut [u8], out: &mut [u8], f: Feed) -> Feed {
-    let at = rest(text::part(buf, 0, f.held), a, b, out, f.at);
     Feed {
         held: 0,
-        at: show::flush(out, at),
         skip: false,
         more: false,
     }
 }
 
 // Reads once and answers the lines that are whole.
-fn step(fd: i32, buf: &mut [u8], a: &mut [u8], b: &mut [u8], out: &mut [u8], f: Feed) -> Feed {
+fn step(fd: i32, buf: &mut [u8], a: &mut [u8], b: &mut [u8], f: Feed) -> Feed {
     let n = fill(fd, buf, f.held);
-    if n == f.held {
-        return last(buf, a, b, out, f);
-    }
     let s = text::part(buf, 0, n);
-    let d = lines(s, first(s, f.skip), a, b, out, f.at);
-    kept(buf, n, out, d)
+    if n == f.held {
+        return last(s, a, b);
+    }
+    let from = lines(s, first(s, f.skip), a, b);
+    kept(buf, from, n)
 }
 
 // A proved loop has to end, and nothing says that an input does: it counts its turns down, from a number that no run
 // uses up.
-fn all(fd: i32, buf: &mut [u8], a: &mut [u8], b: &mut [u8], out: &mut [u8]) {
+fn all(fd: i32, buf: &mut [u8], a: &mut [u8], b: &mut [u8]) {
     let mut f = Feed {
         held: 0,
-        at: 0,
         skip: false,
         more: true,
     };
     let mut turns = u64::MAX;
     while turns > 0 && f.more {
-        f = step(fd, buf, a, b, out, f);
+        f = step(fd, buf, a, b, f);
         turns -= 1;
     }
 }
@@ -216,6 +214,5 @@ pub fn run(fd: i32)
     let mut buf = buffer();
     let mut a = buffer();
     let mut b = buffer();
-    let mut out = io::large_buffer();
-    all(fd, &mut buf, &mut a, &mut b, &mut out);
+    all(fd, &mut buf, &mut a, &mut b);
 }

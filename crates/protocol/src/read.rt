@@ -4,14 +4,9 @@ use crate::show;
 use tc_read::Crc16;
 use tc_read::PusTcRecord;
 use tc_read::PusTcRecordResult;
-use text::Value;
 
-// The place of a way of reading among their names, the last for a word that is none.
-fn mode(word: &[u8]) -> usize {
-    fields::place(word, b"new nt noverify nocrc")
-}
-
-pub(crate) fn read_as(mode: usize, s: &[u8]) -> PusTcRecordResult {
+// The way of reading by its place among the words of MODE.
+pub(crate) fn read_as(mode: u64, s: &[u8]) -> PusTcRecordResult {
     match mode {
         0 => PusTcRecord::new(s),
         1 => PusTcRecord::new_checksum_no_table(s),
@@ -21,35 +16,23 @@ pub(crate) fn read_as(mode: usize, s: &[u8]) -> PusTcRecordResult {
 }
 
 // read MODE DATA
-pub(crate) fn read(line: &[u8], a: &mut [u8], out: &mut [u8], at: usize) -> usize {
-    let way = mode(text::piece(line, 32, 1));
-    if 3 < way {
-        return show::bad(out, at);
-    }
-    let Value::Is(n) = fields::octets(line, 3, 2, a) else {
-        return show::bad(out, at);
-    };
-    shown(out, at, read_as(way, text::part(a, 0, n as usize)))
-}
-
-fn shown(out: &mut [u8], at: usize, r: PusTcRecordResult) -> usize {
+pub(crate) fn read(v: [u64; 18], s: &[u8]) {
+    let r = read_as(v[fields::WORD], s);
     match r {
-        PusTcRecordResult::Err(e) => show::refusal(out, at, e),
+        PusTcRecordResult::Err(e) => show::refusal(e),
         PusTcRecordResult::Ok(record) => {
-            let at = text::put_text(out, at, b"ok ");
-            let at = report(out, at, record);
-            stored(out, at, record.crc16())
+            report(b"ok ", record);
+            stored(record.crc16());
         }
     }
 }
 
-// SP SEC total data_start data_len
-pub(crate) fn report(out: &mut [u8], at: usize, r: PusTcRecord) -> usize {
-    let at = show::sp(out, at, r.sp_header());
-    let at = show::sec(out, at, r.sec_header());
-    let at = text::put(out, at, 32);
+// SP SEC total data_start data_len, after some words.
+pub(crate) fn report(words: &[u8], r: PusTcRecord) {
+    show::sp(words, r.sp_header());
+    show::sec(r.sec_header());
     let v = [r.total as u64, r.start as u64, between(r.start, r.end)];
-    show::list(out, at, 32, &v)
+    show::list(b" ", 32, &v, 3);
 }
 
 fn between(start: usize, end: usize) -> u64 {
@@ -59,44 +42,34 @@ fn between(start: usize, end: usize) -> u64 {
     (end - start) as u64
 }
 
-fn stored(out: &mut [u8], at: usize, crc16: Crc16) -> usize {
+fn stored(crc16: Crc16) {
+    show::say(b" ");
     match crc16 {
-        Crc16::Some(w) => show::word(out, at, w),
-        Crc16::None => text::put_text(out, at, b" -"),
+        Crc16::Some(w) => show::word(w),
+        Crc16::None => show::say(b"-"),
     }
 }
 
 // cmprr MODE DATA MODE DATA
-pub(crate) fn compare(line: &[u8], a: &mut [u8], b: &mut [u8], out: &mut [u8], at: usize) -> usize {
-    let first = mode(text::piece(line, 32, 1));
-    let second = mode(text::piece(line, 32, 3));
-    if 3 < first || 3 < second {
-        return show::bad(out, at);
-    }
-    let Value::Is(n) = fields::octets(line, 5, 2, a) else {
-        return show::bad(out, at);
-    };
-    let Value::Is(m) = fields::octets(line, 5, 4, b) else {
-        return show::bad(out, at);
-    };
-    let s = text::part(a, 0, n as usize);
-    let t = text::part(b, 0, m as usize);
-    compared(first, s, second, t, out, at)
-}
-
-fn compared(first: usize, s: &[u8], second: usize, t: &[u8], out: &mut [u8], at: usize) -> usize {
+pub(crate) fn compare(v: [u64; 18], s: &[u8], t: &[u8]) {
+    let first = v[fields::WORD];
+    let second = v[fields::SECOND];
     let x = read_as(first, s);
     let y = read_as(second, t);
     if is_read(x) && is_read(y) {
-        let v = [
-            tc_read::eq_reader(s, first != 3, t, second != 3) as u64,
-            tc_read::eq_reader(t, second != 3, s, first != 3) as u64,
-        ];
-        return show::list(out, at, 32, &v);
+        return compared(s, first != 3, t, second != 3);
     }
-    let at = outcome(out, at, x);
-    let at = text::put(out, at, 32);
-    outcome(out, at, y)
+    outcome(x);
+    show::say(b" ");
+    outcome(y);
+}
+
+fn compared(s: &[u8], has: bool, t: &[u8], other_has: bool) {
+    let v = [
+        tc_read::eq_reader(s, has, t, other_has) as u64,
+        tc_read::eq_reader(t, other_has, s, has) as u64,
+    ];
+    show::list(b"", 32, &v, 2);
 }
 
 fn is_read(r: PusTcRecordResult) -> bool {
@@ -107,9 +80,9 @@ fn is_read(r: PusTcRecordResult) -> bool {
 }
 
 // `ok` or the refusal.
-fn outcome(out: &mut [u8], at: usize, r: PusTcRecordResult) -> usize {
+fn outcome(r: PusTcRecordResult) {
     match r {
-        PusTcRecordResult::Err(e) => show::refusal(out, at, e),
-        PusTcRecordResult::Ok(_) => text::put_text(out, at, b"ok"),
+        PusTcRecordResult::Err(e) => show::refusal(e),
+        PusTcRecordResult::Ok(_) => show::say(b"ok"),
     }
 }

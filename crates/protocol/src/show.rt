@@ -1,4 +1,4 @@
-// What answers are made of, laid into a buffer that is written out as it fills.
+// What answers are made of, each part written out as it comes.
 use space_packet::ByteConversionError;
 use space_packet::CheckResult;
 use space_packet::PusError;
@@ -6,36 +6,27 @@ use space_packet::SizeResult;
 use space_packet::SpHeader;
 use tc_header::PusTcSecondaryHeader;
 
-// Writes out what was laid, and starts anew.
-pub(crate) fn flush(out: &[u8], at: usize) -> usize {
-    io::write_all(1, text::part(out, 0, at));
-    0
+pub(crate) fn say(s: &[u8]) {
+    io::write_all(1, s);
 }
 
-// Leaves at least half of the buffer free.
-pub(crate) fn room(out: &[u8], at: usize) -> usize {
-    if at <= out.len() / 2 {
-        return at;
-    }
-    flush(out, at)
+pub(crate) fn bad() {
+    say(b"bad-request");
 }
 
-pub(crate) fn bad(out: &mut [u8], at: usize) -> usize {
-    text::put_text(out, at, b"bad-request")
+// The first n numbers, with c before each but the first, and each after its own of the words; `;` separates these.
+pub(crate) fn list(words: &[u8], c: u8, v: &[u64], n: usize) {
+    let mut out = [0u8; 256];
+    let end = laid(&mut out, words, c, v, n);
+    say(text::part(&out, 0, end));
 }
 
-// The numbers, with c before each but the first.
-pub(crate) fn list(out: &mut [u8], at: usize, c: u8, v: &[u64]) -> usize {
-    named(out, at, c, b"", v)
-}
-
-// The same, each after its name; spaces separate the names.
-pub(crate) fn named(out: &mut [u8], at: usize, c: u8, names: &[u8], v: &[u64]) -> usize {
-    let mut at = at;
+fn laid(out: &mut [u8], words: &[u8], c: u8, v: &[u64], n: usize) -> usize {
+    let mut at = 0;
     let mut k = 0;
-    while k < v.len() {
+    while k < n && k < v.len() {
         at = between(out, at, c, k);
-        at = text::put_text(out, at, text::piece(names, 32, k));
+        at = text::put_text(out, at, text::piece(words, 59, k));
         at = text::put_number(out, at, v[k]);
         k += 1;
     }
@@ -49,122 +40,102 @@ fn between(out: &mut [u8], at: usize, c: u8, k: usize) -> usize {
     text::put(out, at, c)
 }
 
-// A space, then four digits.
-pub(crate) fn word(out: &mut [u8], at: usize, w: u16) -> usize {
-    let at = text::put(out, at, 32);
-    text::put_word(out, at, w)
+// One number after some words.
+pub(crate) fn number(words: &[u8], n: u64) {
+    say(words);
+    io::print_decimal(1, n);
+}
+
+// Four digits.
+pub(crate) fn word(w: u16) {
+    let mut out = [0u8; 4];
+    let n = text::put_word(&mut out, 0, w);
+    say(text::part(&out, 0, n));
 }
 
 // A space, then the octets, some thousands at a time; `-` for none.
-pub(crate) fn octets(out: &mut [u8], at: usize, s: &[u8]) -> usize {
-    let at = text::put(out, at, 32);
+pub(crate) fn octets(s: &[u8]) {
     if s.len() == 0 {
-        return text::put(out, at, 45);
+        say(b" -");
+        return;
     }
-    chunks(out, at, s)
+    say(b" ");
+    chunks(s);
 }
 
-fn chunks(out: &mut [u8], at: usize, s: &[u8]) -> usize {
-    let mut at = at;
+fn chunks(s: &[u8]) {
     let mut i = 0;
     while i < s.len() {
-        at = room(out, at);
-        at = text::put_hex(out, at, text::part(s, i, i + 4096));
-        i += 4096;
+        hex(text::part(s, i, i + 2048));
+        i += 2048;
     }
-    at
+}
+
+fn hex(s: &[u8]) {
+    let mut out = io::buffer();
+    let n = text::put_hex(&mut out, 0, s);
+    say(text::part(&out, 0, n));
 }
 
 // ---- refusals
 
-// A refusal's number, how many values it has, and these.
-pub(crate) struct Numbers {
-    pub(crate) number: u64,
-    values: usize,
-    x: u64,
-    y: u64,
-}
-
-fn numbered(number: u64, values: usize, x: u64, y: u64) -> Numbers {
-    Numbers {
-        number,
-        values,
-        x,
-        y,
-    }
-}
-
-pub(crate) fn numbers_of(e: PusError) -> Numbers {
+// A refusal's number, its values, and how many there are of all these.
+fn numbers_of(e: PusError) -> [u64; 4] {
     match e {
         PusError::ByteConversion(c) => conversion(c),
-        PusError::VersionNotSupported(nibble) => numbered(3, 1, nibble as u64, 0),
-        PusError::ChecksumFailure(stored) => numbered(4, 1, stored as u64, 0),
-        PusError::CrcCalculationMissing => numbered(5, 0, 0, 0),
-        PusError::PacketTooLong(length) => numbered(6, 1, length as u64, 0),
-        PusError::FieldRange { place, value } => numbered(7, 2, place as u64, value as u64),
-        PusError::Reservation => numbered(8, 0, 0, 0),
-        PusError::PacketVersion(version) => numbered(9, 1, version as u64, 0),
-        PusError::PacketTypeTm => numbered(10, 0, 0, 0),
-        PusError::NoSecondaryHeader => numbered(11, 0, 0, 0),
+        PusError::VersionNotSupported(nibble) => [3, nibble as u64, 0, 2],
+        PusError::ChecksumFailure(stored) => [4, stored as u64, 0, 2],
+        PusError::CrcCalculationMissing => [5, 0, 0, 1],
+        PusError::PacketTooLong(length) => [6, length as u64, 0, 2],
+        PusError::FieldRange { place, value } => [7, place as u64, value as u64, 3],
+        PusError::Reservation => [8, 0, 0, 1],
+        PusError::PacketVersion(version) => [9, version as u64, 0, 2],
+        PusError::PacketTypeTm => [10, 0, 0, 1],
+        PusError::NoSecondaryHeader => [11, 0, 0, 1],
     }
 }
 
-fn conversion(e: ByteConversionError) -> Numbers {
+fn conversion(e: ByteConversionError) -> [u64; 4] {
     match e {
-        ByteConversionError::ToSliceTooSmall { found, expected } => numbered(
+        ByteConversionError::ToSliceTooSmall { found, expected } => [
             1,
+            found as u64,
+            expected as u64,
+            3,
+        ],
+        ByteConversionError::FromSliceTooSmall { found, expected } => [
             2,
             found as u64,
             expected as u64,
-        ),
-        ByteConversionError::FromSliceTooSmall { found, expected } => numbered(
-            2,
-            2,
-            found as u64,
-            expected as u64,
-        ),
+            3,
+        ],
     }
 }
 
 // err: and the number, then each value after a colon; a checksum in hexadecimal.
-pub(crate) fn refusal(out: &mut [u8], at: usize, e: PusError) -> usize {
-    let r = numbers_of(e);
-    let at = text::put_text(out, at, b"err:");
-    if r.number == 4 {
-        let at = text::put_text(out, at, b"4:");
-        return text::put_word(out, at, (r.x % 65536) as u16);
+pub(crate) fn refusal(e: PusError) {
+    let v = numbers_of(e);
+    if v[0] == 4 {
+        say(b"err:4:");
+        return word((v[1] % 65536) as u16);
     }
-    values(out, at, r)
+    let n = v[3] as usize;
+    list(b"err:", 58, &v, n)
 }
 
-fn values(out: &mut [u8], at: usize, r: Numbers) -> usize {
-    let v = [r.number, r.x, r.y];
-    if r.values == 0 {
-        return list(out, at, 58, &v[..1]);
-    }
-    if r.values == 1 {
-        return list(out, at, 58, &v[..2]);
-    }
-    list(out, at, 58, &v)
-}
-
-// A space, then `ok` or the refusal.
-pub(crate) fn check(out: &mut [u8], at: usize, r: CheckResult) -> usize {
-    let at = text::put(out, at, 32);
+// `ok` or the refusal.
+pub(crate) fn check(r: CheckResult) {
     match r {
-        CheckResult::Err(e) => refusal(out, at, e),
-        CheckResult::Ok => text::put_text(out, at, b"ok"),
+        CheckResult::Err(e) => refusal(e),
+        CheckResult::Ok => say(b"ok"),
     }
 }
 
-// `ok:` and how many, or the refusal.
-pub(crate) fn size(out: &mut [u8], at: usize, r: SizeResult) -> usize {
+// How many, after some words, or the refusal.
+pub(crate) fn size(words: &[u8], r: SizeResult) {
     match r {
-        SizeResult::Err(e) => refusal(out, at, e),
-        SizeResult::Ok(n) => {
-            let at = text::put_text(out, at, b"ok:");
-            text::put_number(out, at, n as u64)
-        }
+        SizeResult::Err(e) => refusal(e),
+        SizeResult::Ok(n) => number(words, n as u64),
     }
 }
 
@@ -186,13 +157,14 @@ fn sp_numbers(h: SpHeader) -> [u64; 7] {
     ]
 }
 
-pub(crate) fn sp(out: &mut [u8], at: usize, h: SpHeader) -> usize {
+// SP after some words.
+pub(crate) fn sp(words: &[u8], h: SpHeader) {
     let v = sp_numbers(h);
-    list(out, at, 44, &v)
+    list(words, 44, &v, 7);
 }
 
 // A space, then SEC: version, acknowledgement flags, service, subtype, source.
-pub(crate) fn sec(out: &mut [u8], at: usize, x: PusTcSecondaryHeader) -> usize {
+pub(crate) fn sec(x: PusTcSecondaryHeader) {
     let version = x.pus_version();
     let flags = x.ack_flags();
     let v = [
@@ -202,6 +174,5 @@ pub(crate) fn sec(out: &mut [u8], at: usize, x: PusTcSecondaryHeader) -> usize {
         x.message_subtype_id() as u64,
         x.source_id() as u64,
     ];
-    let at = text::put(out, at, 32);
-    list(out, at, 44, &v)
+    list(b" ", 44, &v, 5);
 }

@@ -7,10 +7,10 @@ use Rattle.protocol.proofs.lines.Statement.{statement}
 use Rattle.protocol.proofs.lines.Tie as tie
 
 abbrev Inv-loop : tie.InvT-loop
-Inv-loop s from a₀ b₀ out₀ at from₀ at₀ a b out from' at' = (length a ≡ length a₀) × (length b ≡ length b₀) × (length out ≡ length out₀)
+Inv-loop s from a₀ b₀ from₀ a b from' = (length a ≡ length a₀) × (length b ≡ length b₀)
 
 abbrev μ-loop : tie.MeasureT-loop
-μ-loop s from a₀ b₀ out₀ at from₀ at₀ a b out from' at' = length s - from'
+μ-loop s from a₀ b₀ from₀ a b from' = length s - from'
 
 loop-holds : tie.Need-loop-holds Inv-loop μ-loop
 loop-holds c = search needs
@@ -23,9 +23,6 @@ same-length c = search needs
 
 same-length-2 : tie.Need-same-length-2 Inv-loop μ-loop
 same-length-2 c = search needs
-
-same-length-3 : tie.Need-same-length-3 Inv-loop μ-loop
-same-length-3 c = search needs
 
 returns : tie.Need-returns Inv-loop μ-loop
 returns c = search needs
@@ -45,14 +42,11 @@ loop-less c = search needs
 loop-again : tie.Need-loop-again Inv-loop μ-loop
 loop-again c = search needs
 
+same-length-3 : tie.Need-same-length-3 Inv-loop μ-loop
+same-length-3 c = search needs
+
 same-length-4 : tie.Need-same-length-4 Inv-loop μ-loop
 same-length-4 c = search needs
-
-same-length-5 : tie.Need-same-length-5 Inv-loop μ-loop
-same-length-5 c = search needs
-
-same-length-6 : tie.Need-same-length-6 Inv-loop μ-loop
-same-length-6 c = search needs
 
 returns-2 : tie.Need-returns-2 Inv-loop μ-loop
 returns-2 c = search needs
@@ -67,14 +61,12 @@ lines-spec =
     seek-requires
     same-length
     same-length-2
-    same-length-3
     returns
     part-requires
     answer-requires
     add-from
     loop-less
     loop-again
+    same-length-3
     same-length-4
-    same-length-5
-    same-length-6
     returns-2)

@@ -1,22 +1,18 @@
 -- `protocol::show::chunks` is safe and ends: each turn leaves octets behind.
 use Prim.Native.Nat.{_-_}
-use mathlib.Core.Path.{_≡_}
 use borrow.Author.Needs.{needs}
 use lib.ListN.{length}
 use Rattle.protocol.proofs.show.chunks.Statement.{statement}
 use Rattle.protocol.proofs.show.chunks.Tie as tie
 
 abbrev Inv-loop : tie.InvT-loop
-Inv-loop out₀ at s at₀ i₀ out at' i = length out ≡ length out₀
+Inv-loop s i₀ i = Unit {0}
 
 abbrev μ-loop : tie.MeasureT-loop
-μ-loop out₀ at s at₀ i₀ out at' i = length s - i
+μ-loop s i₀ i = length s - i
 
 loop-holds : tie.Need-loop-holds Inv-loop μ-loop
 loop-holds c = search needs
-
-room-requires : tie.Need-room-requires Inv-loop μ-loop
-room-requires c κs = search needs
 
 add-part : tie.Need-add-part Inv-loop μ-loop
 add-part c = search needs
@@ -24,8 +20,8 @@ add-part c = search needs
 part-requires : tie.Need-part-requires Inv-loop μ-loop
 part-requires c κs = search needs
 
-put-hex-requires : tie.Need-put-hex-requires Inv-loop μ-loop
-put-hex-requires c κs = search needs
+hex-requires : tie.Need-hex-requires Inv-loop μ-loop
+hex-requires c κs = search needs
 
 add-i : tie.Need-add-i Inv-loop μ-loop
 add-i c = search needs
@@ -35,9 +31,6 @@ loop-less c = search needs
 
 loop-again : tie.Need-loop-again Inv-loop μ-loop
 loop-again c = search needs
-
-same-length : tie.Need-same-length Inv-loop μ-loop
-same-length c = search needs
 
 returns : tie.Need-returns Inv-loop μ-loop
 returns c = search needs
@@ -49,12 +42,10 @@ chunks-spec =
     Inv-loop
     μ-loop
     loop-holds
-    room-requires
     add-part
     part-requires
-    put-hex-requires
+    hex-requires
     add-i
     loop-less
     loop-again
-    same-length
     returns)

@@ -1,15 +1,13 @@
 -- `protocol::verdict::pieces` is safe and ends: the measure is the number of turns that are left.
-use mathlib.Core.Path.{_≡_}
 use borrow.Author.Needs.{needs}
-use lib.ListN.{length}
 use Rattle.protocol.proofs.verdict.pieces.Statement.{statement}
 use Rattle.protocol.proofs.verdict.pieces.Tie as tie
 
 abbrev Inv-loop : tie.InvT-loop
-Inv-loop s out₀ at done₀ turns₀ out done turns = length out ≡ length out₀
+Inv-loop s from₀ turns₀ from turns = Unit {0}
 
 abbrev μ-loop : tie.MeasureT-loop
-μ-loop s out₀ at done₀ turns₀ out done turns = turns
+μ-loop s from₀ turns₀ from turns = turns
 
 loop-holds : tie.Need-loop-holds Inv-loop μ-loop
 loop-holds c = search needs
@@ -26,14 +24,8 @@ loop-less c = search needs
 loop-again : tie.Need-loop-again Inv-loop μ-loop
 loop-again c = search needs
 
-same-length : tie.Need-same-length Inv-loop μ-loop
-same-length c = search needs
-
 returns : tie.Need-returns Inv-loop μ-loop
 returns c = search needs
-
-same-length-2 : tie.Need-same-length-2 Inv-loop μ-loop
-same-length-2 c = search needs
 
 returns-2 : tie.Need-returns-2 Inv-loop μ-loop
 returns-2 c = search needs
@@ -49,7 +41,5 @@ pieces-spec =
     sub-turns
     loop-less
     loop-again
-    same-length
     returns
-    same-length-2
     returns-2)

@@ -5,22 +5,28 @@ use Rattle.protocol.proofs.write.edited.Statement.{statement}
 use Rattle.protocol.proofs.write.edited.Tie as tie
 
 abbrev Inv-loop : tie.InvT-loop
-Inv-loop «data» edits n r₀ k₀ r k = Unit {0}
+Inv-loop «data» edits n c₀ k₀ c k = Unit {0}
 
 abbrev μ-loop : tie.MeasureT-loop
-μ-loop «data» edits n r₀ k₀ r k = n - k
+μ-loop «data» edits n c₀ k₀ c k = n - k
 
-items-requires : tie.Need-items-requires Inv-loop μ-loop
-items-requires c κs = search needs
+count-requires : tie.Need-count-requires Inv-loop μ-loop
+count-requires c κs = search needs
 
 loop-holds : tie.Need-loop-holds Inv-loop μ-loop
 loop-holds c = search needs
 
-piece-requires : tie.Need-piece-requires Inv-loop μ-loop
-piece-requires c κs = search needs
-
 edit-requires : tie.Need-edit-requires Inv-loop μ-loop
 edit-requires c κs = search needs
+
+enum-known-r : tie.Need-enum-known-r Inv-loop μ-loop
+enum-known-r c = search needs
+
+returns : tie.Need-returns Inv-loop μ-loop
+returns c = search needs
+
+enum-told : tie.Need-enum-told Inv-loop μ-loop
+enum-told c = search needs
 
 add-k : tie.Need-add-k Inv-loop μ-loop
 add-k c = search needs
@@ -31,8 +37,8 @@ loop-less c = search needs
 loop-again : tie.Need-loop-again Inv-loop μ-loop
 loop-again c = search needs
 
-returns : tie.Need-returns Inv-loop μ-loop
-returns c = search needs
+returns-2 : tie.Need-returns-2 Inv-loop μ-loop
+returns-2 c = search needs
 
 pub edited-spec : {M : Type 1} → statement M
 edited-spec =
@@ -40,11 +46,13 @@ edited-spec =
     (tie.spec
     Inv-loop
     μ-loop
-    items-requires
+    count-requires
     loop-holds
-    piece-requires
     edit-requires
+    enum-known-r
+    returns
+    enum-told
     add-k
     loop-less
     loop-again
-    returns)
+    returns-2)

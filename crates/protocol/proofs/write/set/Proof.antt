@@ -1,29 +1,26 @@
--- `protocol::write::set` is safe and ends: each turn sets a builder.
+-- `protocol::write::set` is safe and ends: each turn uses a setter.
 use Prim.Native.Nat.{_-_}
 use borrow.Author.Needs.{needs}
 use Rattle.protocol.proofs.write.set.Statement.{statement}
 use Rattle.protocol.proofs.write.set.Tie as tie
 
 abbrev Inv-loop : tie.InvT-loop
-Inv-loop setters n r₀ k₀ r k = Unit {0}
+Inv-loop setters n s₀ k₀ s k = Unit {0}
 
 abbrev μ-loop : tie.MeasureT-loop
-μ-loop setters n r₀ k₀ r k = n - k
+μ-loop setters n s₀ k₀ s k = n - k
 
-items-requires : tie.Need-items-requires Inv-loop μ-loop
-items-requires c κs = search needs
+count-requires : tie.Need-count-requires Inv-loop μ-loop
+count-requires c κs = search needs
 
 builder-requires : tie.Need-builder-requires Inv-loop μ-loop
 builder-requires c κs = search needs
 
-drawn-requires : tie.Need-drawn-requires Inv-loop μ-loop
-drawn-requires c κs = search needs
+unrefused-requires : tie.Need-unrefused-requires Inv-loop μ-loop
+unrefused-requires c κs = search needs
 
 loop-holds : tie.Need-loop-holds Inv-loop μ-loop
 loop-holds c = search needs
-
-piece-requires : tie.Need-piece-requires Inv-loop μ-loop
-piece-requires c κs = search needs
 
 set-one-requires : tie.Need-set-one-requires Inv-loop μ-loop
 set-one-requires c κs = search needs
@@ -46,11 +43,10 @@ set-spec =
     (tie.spec
     Inv-loop
     μ-loop
-    items-requires
+    count-requires
     builder-requires
-    drawn-requires
+    unrefused-requires
     loop-holds
-    piece-requires
     set-one-requires
     add-k
     loop-less

@@ -1,26 +1,23 @@
--- `protocol::write::all_good` is safe and ends: each turn reads an item.
+-- `protocol::items::good` is safe and ends: each turn passes an item.
 use Prim.Native.Nat.{_-_}
 use borrow.Author.Needs.{needs}
-use Rattle.protocol.proofs.write.all_good.Statement.{statement}
-use Rattle.protocol.proofs.write.all_good.Tie as tie
+use Rattle.protocol.proofs.items.good.Statement.{statement}
+use Rattle.protocol.proofs.items.good.Tie as tie
 
 abbrev Inv-loop : tie.InvT-loop
-Inv-loop s from end n k₀ k = Unit {0}
+Inv-loop s from end n taken₀ k₀ taken k = Unit {0}
 
 abbrev μ-loop : tie.MeasureT-loop
-μ-loop s from end n k₀ k = n - k
+μ-loop s from end n taken₀ k₀ taken k = n - k
 
-items-requires : tie.Need-items-requires Inv-loop μ-loop
-items-requires c κs = search needs
+count-requires : tie.Need-count-requires Inv-loop μ-loop
+count-requires c κs = search needs
 
 loop-holds : tie.Need-loop-holds Inv-loop μ-loop
 loop-holds c = search needs
 
-piece-requires : tie.Need-piece-requires Inv-loop μ-loop
-piece-requires c κs = search needs
-
-good-requires : tie.Need-good-requires Inv-loop μ-loop
-good-requires c κs = search needs
+name-requires : tie.Need-name-requires Inv-loop μ-loop
+name-requires c κs = search needs
 
 returns : tie.Need-returns Inv-loop μ-loop
 returns c = search needs
@@ -37,16 +34,15 @@ loop-again c = search needs
 returns-2 : tie.Need-returns-2 Inv-loop μ-loop
 returns-2 c = search needs
 
-pub all-good-spec : {M : Type 1} → statement M
-all-good-spec =
+pub good-spec : {M : Type 1} → statement M
+good-spec =
     tie.close
     (tie.spec
     Inv-loop
     μ-loop
-    items-requires
+    count-requires
     loop-holds
-    piece-requires
-    good-requires
+    name-requires
     returns
     add-k
     loop-less

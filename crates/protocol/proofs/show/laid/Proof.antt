@@ -1,16 +1,16 @@
--- `protocol::show::named` is safe and ends: each turn lays a number.
+-- `protocol::show::laid` is safe and ends: each turn lays a number.
 use Prim.Native.Nat.{_-_}
 use mathlib.Core.Path.{_≡_}
 use borrow.Author.Needs.{needs}
 use lib.ListN.{length}
-use Rattle.protocol.proofs.show.named.Statement.{statement}
-use Rattle.protocol.proofs.show.named.Tie as tie
+use Rattle.protocol.proofs.show.laid.Statement.{statement}
+use Rattle.protocol.proofs.show.laid.Tie as tie
 
 abbrev Inv-loop : tie.InvT-loop
-Inv-loop out₀ at c names v at₀ k₀ out at' k = length out ≡ length out₀
+Inv-loop out₀ words c v n at₀ k₀ out at k = length out ≡ length out₀
 
 abbrev μ-loop : tie.MeasureT-loop
-μ-loop out₀ at c names v at₀ k₀ out at' k = length v - k
+μ-loop out₀ words c v n at₀ k₀ out at k = n - k
 
 loop-holds : tie.Need-loop-holds Inv-loop μ-loop
 loop-holds c = search needs
@@ -48,8 +48,14 @@ same-length c = search needs
 returns : tie.Need-returns Inv-loop μ-loop
 returns c = search needs
 
-pub named-spec : {M : Type 1} → statement M
-named-spec =
+same-length-2 : tie.Need-same-length-2 Inv-loop μ-loop
+same-length-2 c = search needs
+
+returns-2 : tie.Need-returns-2 Inv-loop μ-loop
+returns-2 c = search needs
+
+pub laid-spec : {M : Type 1} → statement M
+laid-spec =
     tie.close
     (tie.spec
     Inv-loop
@@ -65,4 +71,6 @@ named-spec =
     loop-less
     loop-again
     same-length
-    returns)
+    returns
+    same-length-2
+    returns-2)
