@@ -1,4 +1,5 @@
-// The checksum as the Rust's crate `crc` computes it: bit steps, a table of 256 entries, sixteen tables.
+// The Rust crate's algorithms in C. The checksum is that of its crate `crc`: bit steps, a table of 256 entries, sixteen
+// tables. The reader, the verdict, the writer and the splitter take the table or the bit steps.
 #include "bench.h"
 
 static u16 tables[16][256];
@@ -25,9 +26,9 @@ static u16 table_from(u16 r, const u8 *s, usize n) {
     return r;
 }
 
-u16 crate_table(const u8 *s, usize n) { return table_from(0xFFFF, s, n); }
+usize crate_table(const u8 *s, usize n) { return table_from(0xFFFF, s, n); }
 
-u16 crate_sixteen(const u8 *s, usize n) {
+usize crate_sixteen(const u8 *s, usize n) {
     u16 r = 0xFFFF;
     for (; n >= 16; s += 16, n -= 16)
         r = tables[0][s[15]] ^ tables[1][s[14]] ^ tables[2][s[13]] ^ tables[3][s[12]] ^ tables[4][s[11]]
@@ -37,9 +38,121 @@ u16 crate_sixteen(const u8 *s, usize n) {
     return table_from(r, s, n);
 }
 
-u16 crate_bits(const u8 *s, usize n) {
+usize crate_bits(const u8 *s, usize n) {
     u16 r = 0xFFFF;
     for (usize i = 0; i < n; i++)
         r = bit_steps((u16)(r ^ s[i] << 8));
     return r;
+}
+
+// ---- read, and judged
+
+struct record {
+    u8 version, type, has_second, flags;
+    u16 apid, count, length;
+    u8 ack, service, subtype;
+    u16 source, crc;
+    usize total;
+};
+
+static u16 word(const u8 *s) { return (u16)(s[0] << 8 | s[1]); }
+
+// Whether the reader takes the octets; its checks in their order, the checksum last.
+static inline int read_by(call *checksum, const u8 *s, usize n, struct record *r) {
+    if (n < 11)
+        return 0;
+    u16 id = word(s), psc = word(s + 2);
+    r->version = s[0] >> 5;
+    r->type = id >> 12 & 1;
+    r->has_second = id >> 11 & 1;
+    r->apid = id & 0x7FF;
+    r->flags = (u8)(psc >> 14);
+    r->count = psc & 0x3FFF;
+    r->length = word(s + 4);
+    r->total = r->length + 7ul;
+    if (n < r->total || r->total < 11)
+        return 0;
+    r->ack = s[6] & 15;
+    r->service = s[7];
+    r->subtype = s[8];
+    r->source = word(s + 9);
+    r->crc = word(s + r->total - 2);
+    return r->total >= 13 && checksum(s, r->total) == 0;
+}
+
+// The strict checks behind the reader's.
+static inline int judge_by(call *checksum, const u8 *s, usize n, struct record *r) {
+    return read_by(checksum, s, n, r) && r->version == 0 && r->type == 1 && r->has_second && s[6] >> 4 == 2;
+}
+
+// What was read, each field of it.
+static usize sum(const struct record *r) {
+    u16 id = (u16)(r->type << 12 | r->has_second << 11 | r->apid), psc = (u16)(r->flags << 14 | r->count);
+    return (usize)r->version + id + psc + r->length + r->service + r->subtype + r->ack + r->source + r->crc;
+}
+
+usize crate_read(const u8 *s, usize n) {
+    struct record r;
+    return read_by(crate_table, s, n, &r) ? sum(&r) : 0;
+}
+
+usize crate_read_bits(const u8 *s, usize n) {
+    struct record r;
+    return read_by(crate_bits, s, n, &r) ? sum(&r) : 0;
+}
+
+usize crate_judge(const u8 *s, usize n) {
+    struct record r;
+    return judge_by(crate_table, s, n, &r) ? r.total : 0;
+}
+
+usize crate_judge_bits(const u8 *s, usize n) {
+    struct record r;
+    return judge_by(crate_bits, s, n, &r) ? r.total : 0;
+}
+
+// ---- split
+
+static inline usize step_by(call *checksum, const u8 *s, usize n, usize at) {
+    if (n <= at || n - at < 6)
+        return 0;
+    usize total = word(s + at + 4) + 7ul;
+    struct record r;
+    return n - at >= total && judge_by(checksum, s + at, total, &r) ? at + total : 0;
+}
+
+usize crate_step(const u8 *s, usize n, usize at) { return step_by(crate_table, s, n, at); }
+
+usize crate_step_bits(const u8 *s, usize n, usize at) { return step_by(crate_bits, s, n, at); }
+
+// ---- written
+
+static void put(u8 *buf, u16 w) {
+    buf[0] = (u8)(w >> 8);
+    buf[1] = (u8)w;
+}
+
+static inline usize write_by(call *checksum, u16 id, u16 psc, u8 service, u8 subtype, const u8 *data, usize n, u8 *buf,
+                             usize room) {
+    usize total = n + 13;
+    if (room < total)
+        return 0;
+    put(buf, 0x1800 | (id & 0x7FF));
+    put(buf + 2, psc);
+    put(buf + 4, (u16)(total - 7));
+    buf[6] = 2 << 4 | 15;
+    buf[7] = service;
+    buf[8] = subtype;
+    put(buf + 9, 0);
+    __builtin_memcpy(buf + 11, data, n);
+    put(buf + total - 2, (u16)checksum(buf, total - 2));
+    return total;
+}
+
+usize crate_write(u16 id, u16 psc, u8 service, u8 subtype, const u8 *data, usize n, u8 *buf, usize room) {
+    return write_by(crate_table, id, psc, service, subtype, data, n, buf, room);
+}
+
+usize crate_write_bits(u16 id, u16 psc, u8 service, u8 subtype, const u8 *data, usize n, u8 *buf, usize room) {
+    return write_by(crate_bits, id, psc, service, subtype, data, n, buf, room);
 }
