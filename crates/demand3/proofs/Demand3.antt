@@ -16,17 +16,17 @@ use Rattle.space_packet.proofs.Answers.{gives-inj, gives-then, then-gives, refu
 use Rattle.space_packet.proofs.Determined.{writes}
 use Rattle.ecss.specs.Frame.{Octets, statedOf, closed}
 use Rattle.ecss.specs.Version.{defaultConfig}
-use Rattle.ecss.specs.Reserve.{finishIn, finished}
+use Rattle.reserve.specs.Reserve.{finishIn, finished}
 use Rattle.ecss.specs.declared.PusVersion.the-variants.{PusC}
 use Rattle.ecss.specs.Codec.{Written, judge, packetOf}
 use Rattle.tc_header.specs.Header.{pusC}
 use Rattle.tc_header.specs.declared.PusTcSecondaryHeader.{PusTcSecondaryHeader}
 use Rattle.tc_header.proofs.CodecLaws.{laws}
 use Rattle.ecss_tc.specs.Creator.{creatorOf, newOf, contentFor}
-use Rattle.ecss_tc.specs.Reserved.{reservationOf, reserveOf}
+use Rattle.tc_reserved.specs.Reserved.{reservationOf, reserveOf}
 use Rattle.ecss_tc.specs.declared.PusTcCreator.{PusTcCreator}
-use Rattle.ecss_tc.specs.declared.PusTcCreatorWithReservedAppData.{PusTcCreatorWithReservedAppData}
-use Rattle.ecss_tc.proofs.Agree.{filledIn, reserved-agrees}
+use Rattle.tc_reserved.specs.declared.PusTcCreatorWithReservedAppData.{PusTcCreatorWithReservedAppData}
+use Rattle.tc_reserved.proofs.Agree.{filledIn, reserved-agrees}
 use Rattle.tc_read.specs.Read.{recordOf, readOf, checkedRead, appData}
 use Rattle.tc_read.specs.declared.PusTcRecord.{PusTcRecord}
 use Rattle.tc_read.proofs.Records.{checked-is}

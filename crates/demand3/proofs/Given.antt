@@ -19,7 +19,7 @@ use Rattle.ecss.proofs.Frames.{length-total, total-length, field-is, total-writ
 use Rattle.tc_header.specs.declared.PusTcSecondaryHeader.{PusTcSecondaryHeader}
 use Rattle.tc_header.proofs.Checks.{ack-passes, version-passes}
 use Rattle.ecss_tc.specs.Creator.{creatorOf, asCommand, creatorCheck, created, newOf, writeOf}
-use Rattle.ecss_tc.specs.Reserved.{reservationOf, reserveOf}
+use Rattle.tc_reserved.specs.Reserved.{reservationOf, reserveOf}
 use Rattle.ecss_tc.specs.declared.PusTcCreator.{PusTcCreator}
 use Rattle.demand3.specs.Rules.{Rules, Handed, Room, headerFor}
 

@@ -13,14 +13,14 @@ use Rattle.space_packet.specs.declared.PacketType.the-variants.{Tc}
 use Rattle.space_packet.specs.declared.SizeResult.{SizeResult}
 use Rattle.space_packet.specs.declared.SizeResult.the-variants.{Ok}
 use Rattle.ecss.specs.Codec.{Packet, packetOf, contentOf}
-use Rattle.ecss.specs.Reserve.{fillIn, filledBy, finishIn, finished}
+use Rattle.reserve.specs.Reserve.{fillIn, filledBy, finishIn, finished}
 use Rattle.ecss.specs.declared.PusVersion.the-variants.{PusC}
 use Rattle.tc_header.specs.Header.{pusC}
 use Rattle.tc_header.specs.declared.PusTcSecondaryHeader.{PusTcSecondaryHeader}
 use Rattle.ecss_tc.specs.Creator.{asCommand, withLength, writeOf, octetsFor}
-use Rattle.ecss_tc.specs.Reserved.{reserveOf, headFor, reservedLeft}
+use Rattle.tc_reserved.specs.Reserved.{reserveOf, headFor, reservedLeft}
 use Rattle.ecss_tc.specs.declared.PusTcCreator.{PusTcCreator}
-use Rattle.ecss_tc.specs.declared.PusTcCreatorWithReservedAppData.{PusTcCreatorWithReservedAppData}
+use Rattle.tc_reserved.specs.declared.PusTcCreatorWithReservedAppData.{PusTcCreatorWithReservedAppData}
 use Rattle.tc_read.specs.declared.PusTcRecord.{PusTcRecord}
 use Rattle.ecss.specs.declared.Crc16.the-variants.{Some}
 use Rattle.strict.specs.Verdict.{strictOf, verdictAnswer}

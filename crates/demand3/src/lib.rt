@@ -6,17 +6,17 @@ ghost use mathlib.Core.Path.{_≡_};
 ghost use mathlib.Core.Bool.{true};
 ghost use lib.ListN.{length};
 ghost use Rattle.space_packet.specs.Wrote.{Wrote};
-ghost use Rattle.ecss.specs.Reserve.{finishIn, finished};
+ghost use Rattle.reserve.specs.Reserve.{finishIn, finished};
 ghost use Rattle.demand3.specs.Rules.{Rules, Handed, headerFor, Fits, WrittenBy, Accepts};
 use ecss_tc::PusTcBuilder;
 use ecss_tc::PusTcCreator;
 use ecss_tc::PusTcCreatorResult;
-use ecss_tc::PusTcCreatorWithReservedAppData;
-use ecss_tc::ReservedResult;
 use space_packet::SizeResult;
 use space_packet::SpHeader;
 use strict::Verdict;
 use tc_header::PusTcSecondaryHeader;
+use tc_reserved::PusTcCreatorWithReservedAppData;
+use tc_reserved::ReservedResult;
 
 fn write(creator: PusTcCreator, app_data: &[u8], buf: &mut [u8], table: bool) -> SizeResult
     ensures { λ r. ⌜ WrittenBy creator (now («app_data» .entry)) (now (buf .entry)) r (now (buf .exit)) ⌝ }

@@ -1,6 +1,5 @@
 pub mod Frames
 pub mod Parts
-pub mod Reserved
 pub mod Sealed
 pub mod Octets
 pub mod Rules

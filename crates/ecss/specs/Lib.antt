@@ -1,5 +1,4 @@
 pub mod Version
 pub mod Frame
 pub mod Write
-pub mod Reserve
 pub mod Codec

@@ -85,7 +85,7 @@ pub fn raw_part(s: &[u8], size: u8, has_checksum: bool) -> &[u8]
     }
 }
 
-pub(crate) fn trailer_len(has_checksum: bool) -> usize
+fn trailer_len(has_checksum: bool) -> usize
     ensures { λ r. ⌜ r ≡ trailer «has_checksum» ⌝ }
 {
     if has_checksum { 2 } else { 0 }
@@ -162,7 +162,7 @@ pub fn data_len_field(size: u8, data_len: usize, has_checksum: bool) -> DataLenR
 }
 
 // 1 where a buffer of `found` octets has no room for `expected`.
-pub(crate) fn in_buffer(found: usize, expected: usize) -> SizeResult
+fn in_buffer(found: usize, expected: usize) -> SizeResult
     ensures { λ r. ⌜ sizeAnswer r ≡ inBuffer found expected ⌝ }
 {
     if found < expected {
@@ -186,7 +186,7 @@ pub fn room_for(size: u8, data_len: usize, has_checksum: bool, found: usize) -> 
 }
 
 // Copies `data` over the first octets of `part`.
-pub(crate) fn copy(part: &mut [u8], data: &[u8])
+fn copy(part: &mut [u8], data: &[u8])
     requires { ⌜ length (now «data») ≤ length (now part) ⌝ }
     ensures { λ _. ⌜ now (part .exit) ≡ now («data» .entry) ++ drop (length (now («data» .entry))) (now (part .entry)) ⌝ }
 {
@@ -194,6 +194,20 @@ pub(crate) fn copy(part: &mut [u8], data: &[u8])
     while i < data.len() {
         part[i] = data[i];
         i += 1;
+    }
+}
+
+// Fills a lent part with `data` from its start; 1 where there is more data than room.
+pub fn fill(part: &mut [u8], data: &[u8]) -> SizeResult
+    ensures { λ r. ⌜ Wrote (inBuffer (length (now (part .entry))) (length (now («data» .entry)))) (now («data» .entry)) (now (part .entry)) r (now (part .exit)) ⌝ }
+{
+    let room = in_buffer(part.len(), data.len());
+    match room {
+        SizeResult::Err(e) => SizeResult::Err(e),
+        SizeResult::Ok(n) => {
+            copy(part, data);
+            SizeResult::Ok(n)
+        }
     }
 }
 
@@ -213,7 +227,7 @@ pub fn put_data(size: u8, data: &[u8], buf: &mut [u8]) -> SizeResult
 }
 
 // Writes the checksum over the first `end` octets behind them.
-pub(crate) fn put_checksum(buf: &mut [u8], end: usize)
+fn put_checksum(buf: &mut [u8], end: usize)
     requires { ⌜ end + 2 ≤ length (now buf) ⌝ }
     ensures { λ _. ⌜ now (buf .exit) ≡ sealed (take end (now (buf .entry))) ++ drop (end + 2) (now (buf .entry)) ⌝ }
 {

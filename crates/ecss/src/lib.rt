@@ -11,7 +11,6 @@ pub use space_packet::PusError;
 use space_packet::SpHeader;
 
 pub mod frame;
-pub mod reserve;
 
 // All PUS versions; only PUS C is written.
 pub enum PusVersion {

@@ -1,17 +1,15 @@
 -- Two results that meet a call's contract are equal, and so is what they leave in a buffer.
 use Prim.Native.Nat.{ℕ}
 use mathlib.Core.Path.{_≡_, refl, ap}
-use mathlib.Core.Bool.{Bool}
 use mathlib.Core.List.{List}
 use lib.ListN.{length}
 use Rattle.space_packet.specs.Answer.{Passed, Kept, setIf}
 use Rattle.space_packet.specs.declared.SpacePacketHeader.{SpacePacketHeader}
 use Rattle.space_packet.proofs.Answers.{by-inverse, resultOf, error-back}
-use Rattle.space_packet.proofs.Determined.{Determines, from-inj, check-inj, plain, Writes, writes}
+use Rattle.space_packet.proofs.Determined.{Determines, from-inj, check-inj, Writes, writes}
 use Rattle.ecss.specs.declared.CreatorConfig.{CreatorConfig}
 use Rattle.tc_header.specs.declared.PusTcSecondaryHeader.{PusTcSecondaryHeader}
 use Rattle.ecss_tc.specs.Creator.{contentFor, octetsFor, newOf, creatorAnswer, creatorKept, updated, ownChecksum, crcAnswer, checksumOf, checksumAnswer, writeOf, plainOf}
-use Rattle.ecss_tc.specs.Reserved.{reserveOf, reservedAnswer, headFor, reservedLeft}
 use Rattle.ecss_tc.specs.Builder.{builderKept}
 use Rattle.ecss_tc.specs.declared.PusTcCreator.{PusTcCreator}
 use Rattle.ecss_tc.specs.declared.PusTcCreatorSet.{PusTcCreatorSet}
@@ -21,8 +19,6 @@ use Rattle.ecss_tc.specs.declared.CrcResult.{CrcResult}
 use Rattle.ecss_tc.specs.declared.CrcResult.the-variants as C
 use Rattle.ecss_tc.specs.declared.ChecksumResult.{ChecksumResult}
 use Rattle.ecss_tc.specs.declared.ChecksumResult.the-variants as K
-use Rattle.ecss_tc.specs.declared.ReservedResult.{ReservedResult}
-use Rattle.ecss_tc.specs.declared.ReservedResult.the-variants as R
 use Rattle.ecss_tc.specs.declared.PusTcBuilder.{PusTcBuilder}
 use Rattle.ecss_tc.specs.declared.PusTcBuilderSet.{PusTcBuilderSet}
 
@@ -43,11 +39,6 @@ unfolding resultOf
 checksum-back (K.Ok n) = refl
 checksum-back (K.Err e) = ap K.Err (error-back e)
 
-reserved-back : (r : ReservedResult) → resultOf R.Ok R.Err (reservedAnswer r) ≡ r
-unfolding resultOf
-reserved-back (R.Ok r) = refl
-reserved-back (R.Err e) = ap R.Err (error-back e)
-
 creator-kept-inj : (x y : PusTcCreatorSet) → creatorKept x ≡ creatorKept y → x ≡ y
 creator-kept-inj x y p =
     let e : x .result ≡ y .result = check-inj _ _ (ap (λ (k : Kept PusTcCreator). k .passed) p) in
@@ -61,10 +52,8 @@ builder-kept-inj x y p =
 -- ---- the calls
 
 -- A contract that is `r ≡ d` is determined by `plain`: builder, every reading call, eq, set_sp_header, set_sec_header,
--- set_seq_flags, set_source_id; of the reserved writer len_written, and of the part that it hands out the octets, whose
--- place in the buffer is two equations more; of the builder new, default, and each setter that refuses nothing.
--- The theorems of ecss at start 11 determine len_written, and of the reserved writer app_data_len, app_data_bounds,
--- fill_app_data and the three ways to finish.
+-- set_seq_flags, set_source_id; of the builder new, default, and each setter that refuses nothing. The theorem of ecss at
+-- start 11 determines len_written.
 
 -- also new_simple, new_no_app_data and build
 pub new : (h : SpacePacketHeader) (x : PusTcSecondaryHeader) (n : ℕ) (config : CreatorConfig) → Determines creatorAnswer (newOf h x n config)
@@ -91,11 +80,6 @@ write-to-slice t d s = writes _ _ _
 -- write_to_slice_no_crc and write_to_slice_no_checksum
 pub write-to-slice-no-crc : (t : PusTcCreator) (d s : List ℕ) → Writes (plainOf t (length d) (length s)) (contentFor t d) s
 write-to-slice-no-crc t d s = writes _ _ _
-
--- the answer and the buffer
-pub reserve : (h : SpacePacketHeader) (x : PusTcSecondaryHeader) (n : ℕ) (b : Bool) (s : List ℕ) → Determines reservedAnswer (reserveOf h x n b (length s))
-    × Determines (λ (o : List ℕ). o) (reservedLeft (reserveOf h x n b (length s)) (headFor h x n b) s)
-reserve h x n b s = (from-inj reservedAnswer (by-inverse reservedAnswer (resultOf R.Ok R.Err) reserved-back) _, plain _)
 
 -- with_packet_id, with_packet_sequence_control, with_sequence_count, with_ack_flags and with_apid
 pub with-field : (p : Passed) (old new : PusTcBuilder) → Determines builderKept (setIf p old new)

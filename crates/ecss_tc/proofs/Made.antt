@@ -1,6 +1,6 @@
 -- Construction and edits: what an answer of them says of its checks.
 use Prim.Native.Nat.{ℕ, _-_}
-use mathlib.Core.Path.{_≡_, sym, ap, _∙_}
+use mathlib.Core.Path.{_≡_, refl, sym, ap, _∙_}
 use mathlib.Core.Bool.{Bool, true, false, _&&_}
 use mathlib.Core.List.{List}
 use Rattle.space_packet.specs.Bits.{pick}
@@ -13,7 +13,7 @@ use Rattle.ecss.specs.Write.{totalFor, lengthOf, limited, lengthField}
 use Rattle.ecss.proofs.Frames.{length-total}
 use Rattle.tc_header.specs.declared.PusTcSecondaryHeader.{PusTcSecondaryHeader}
 use Rattle.ecss.specs.declared.Crc16.the-variants.{Some, None}
-use Rattle.ecss_tc.specs.Creator.{ownChecksum, checksumOf, creatorOf, asCommand, creatorCheck, withLength, keptIn, withHeader, lengthSet, created, updated}
+use Rattle.ecss_tc.specs.Creator.{ownChecksum, checksumOf, creatorOf, asCommand, creatorCheck, withLength, keptIn, withHeader, lengthSet, created}
 use Rattle.ecss_tc.specs.declared.PusTcCreator.{PusTcCreator}
 
 -- what only turns a value is refused where that value is
@@ -33,17 +33,22 @@ field-total start b n f p =
 
 -- ---- construction
 
-pub made-refused : (t : PusTcCreator) (s : Bool) (n : ℕ) (e : Numbers) → creatorCheck t ≡ refuses e → created t s n ≡ refuses e
-unfolding created
-made-refused t s n e p = refuses-then _ _ _ p
-
 pub made-set : (t : PusTcCreator) (s : Bool) (n : ℕ) → creatorCheck t ≡ gives tt → s ≡ true → created t s n ≡ lengthSet t n
 unfolding created
 made-set t s n p q = gives-then _ _ tt p ∙ ap (λ (x : Bool). pick x (lengthSet t n) (gives t)) q
 
-pub made-plain : (t : PusTcCreator) (s : Bool) (n : ℕ) → creatorCheck t ≡ gives tt → s ≡ false → created t s n ≡ gives t
+-- construction, by the length that it sets or leaves
+by-length : (c : Passed) (t : PusTcCreator) (s : Bool) (n : ℕ)
+    → (c then λ _. pick s (lengthSet t n) (gives t)) ≡ ((c then λ _. pick s (lengthField 11 (t .«has_checksum») n) (gives (t .«sp_header» .«data_len»))) then λ f. gives (withHeader t (withLength (t .«sp_header») f)))
+unfolding _then_
+by-length (refuses e) t s n = refl
+by-length (gives u) t true n = refl
+by-length (gives u) t false n = refl
+
+pub made-length : (t : PusTcCreator) (s : Bool) (n : ℕ)
+    → created t s n ≡ ((creatorCheck t then λ _. pick s (lengthField 11 (t .«has_checksum») n) (gives (t .«sp_header» .«data_len»))) then λ f. gives (withHeader t (withLength (t .«sp_header») f)))
 unfolding created
-made-plain t s n p q = gives-then _ _ tt p ∙ ap (λ (x : Bool). pick x (lengthSet t n) (gives t)) q
+made-length t s n = by-length (creatorCheck t) t s n
 
 -- construction from the header that it sets
 pub made-by : (g h : SpacePacketHeader) (x : PusTcSecondaryHeader) (b s : Bool) (n : ℕ) → g ≡ asCommand h → created (creatorOf g x b) s n ≡ created (creatorOf (asCommand h) x b) s n
@@ -55,23 +60,25 @@ made-by g h x b s n e = ap (λ (z : SpacePacketHeader). created (creatorOf z x b
 pub edit-in : {A : Type 0} (f : SpacePacketHeader → A) (s : SpHeaderSet) (p : Passed) (old new : SpacePacketHeader) → headerKept s ≡ setIf p old new → keptIn f s ≡ setIf p (f old) (f new)
 edit-in f s p old new k = ap (λ (v : Kept SpacePacketHeader). record { passed = v .passed; kept = f (v .kept) }) k ∙ set-in f p old new
 
--- the length set afresh: refused by a field, refused by the total, and done
-pub kept-as-was : (t : PusTcCreator) (n : ℕ) (e : Numbers) → creatorCheck t ≡ refuses e → record { passed = refuses e; kept = t } ≡ updated t n
-unfolding updated
-kept-as-was t n e p = let w = refuses-then _ _ _ p in kept-old _ _ _ _ _ (sym w) w
+-- the length set afresh: refused, and done
+passed-by : (c : Passed) (a : Answer ℕ) → _≡_ {A = Passed} (c then λ _. a then λ _. gives tt) ((c then λ _. a) then λ _. gives tt)
+unfolding _then_
+passed-by (refuses e) a = refl
+passed-by (gives u) a = refl
 
-pub kept-too-long : (t : PusTcCreator) (n : ℕ) (e : Numbers) → creatorCheck t ≡ gives tt → lengthSet t n ≡ refuses e → record { passed = refuses e; kept = t } ≡ updated t n
-unfolding updated
-kept-too-long t n e p q = let w = gives-then _ _ tt p ∙ refuses-then _ _ _ (turned-refused _ _ e q) in kept-old _ _ _ _ _ (sym w) w
+module _ (h : SpacePacketHeader) (x : PusTcSecondaryHeader) (n : ℕ) (b : Bool) where
+  abbrev afresh : Kept SpacePacketHeader
+  afresh = setIf (creatorCheck (creatorOf h x true) then λ _. lengthField 11 b n then λ _. gives tt) h (withLength h (totalFor 11 b n - 7))
 
-pub length-updated : (t u : PusTcCreator) (n : ℕ) → creatorCheck t ≡ gives tt → lengthSet t n ≡ gives u → record { passed = gives tt; kept = u } ≡ updated t n
-unfolding updated
-length-updated t u n p q =
-    let f = then-gives _ _ u q in
-    let w = gives-then _ _ tt p ∙ gives-then _ _ (f .0) (f .1) in
-    let k = ap (λ (x : ℕ). withHeader t (withLength (t .«sp_header») x)) (field-total _ _ n (f .0) (f .1)) in
-    ap (λ (v : PusTcCreator). record { passed = gives tt; kept = v }) (sym (gives-inj _ u (f .2)) ∙ k)
-    ∙ kept-new _ _ _ _ (sym w) w
+  pub afresh-refused : (e : Numbers) → (creatorCheck (creatorOf h x true) then λ _. lengthField 11 b n) ≡ refuses e → record { passed = refuses e; kept = h } ≡ afresh
+  afresh-refused e p = let w = passed-by (creatorCheck (creatorOf h x true)) (lengthField 11 b n) ∙ refuses-then _ _ _ p in kept-old _ _ _ _ _ (sym w) w
+
+  pub afresh-set : (f : ℕ) (k : SpacePacketHeader) → (creatorCheck (creatorOf h x true) then λ _. lengthField 11 b n) ≡ gives f → k ≡ withLength h f → record { passed = gives tt; kept = k } ≡ afresh
+  afresh-set f k p q =
+      let w = passed-by (creatorCheck (creatorOf h x true)) (lengthField 11 b n) ∙ gives-then _ _ f p in
+      let l = then-gives (creatorCheck (creatorOf h x true)) _ f p in
+      ap (λ (z : SpacePacketHeader). record { passed = gives tt; kept = z }) (q ∙ ap (withLength h) (field-total 11 b n f (l .2)))
+      ∙ kept-new _ _ _ _ (sym w) w
 
 -- ---- comparisons, one part after the other
 

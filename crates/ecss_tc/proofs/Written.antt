@@ -25,10 +25,8 @@ use Rattle.ecss.proofs.Frames.{write-total, total-write}
 use Rattle.ecss.proofs.Parts.{mid-filled}
 use Rattle.tc_header.specs.Header.{ackCheck, secOctets, secWrite, versionCheck}
 use Rattle.tc_header.specs.declared.PusTcSecondaryHeader.{PusTcSecondaryHeader}
-use Rattle.ecss_tc.specs.Creator.{creatorOf, contentFor, octetsFor, withLength, asCommand, creatorCheck, ownChecksum, writeOf, plainOf}
-use Rattle.ecss_tc.specs.Reserved.{headFor, reservedLeft}
+use Rattle.ecss_tc.specs.Creator.{contentFor, octetsFor, creatorCheck, ownChecksum, writeOf, plainOf}
 use Rattle.ecss_tc.specs.declared.PusTcCreator.{PusTcCreator}
-use Rattle.ecss_tc.specs.declared.PusTcCreatorWithReservedAppData.{PusTcCreatorWithReservedAppData}
 use Rattle.ecss_tc.proofs.Made.{turned-refused}
 
 -- ---- the octets of a packet
@@ -214,24 +212,3 @@ own-given t d head rest n a b c p v h er ea eb ec en =
     let f : b ≡ digestOf o = eb ∙ ap₂ taken ea g ∙ digest-parts [] o in
     let e : n ≡ crcOf (contentFor t d) = en ∙ ap checksumHeld (ec ∙ ap (λ (z : Digest). taken z d) f ∙ digest-parts o d) ∙ ap crcOf (content-parts t d) in
     ap gives e ∙ sym (gives-then _ _ tt p ∙ gives-then _ _ tt v)
-
--- ---- a reservation
-
--- the header that is written: h as construction sets it, with the length n
-module _ (h g k : SpacePacketHeader) (x : PusTcSecondaryHeader) (n : ℕ) (p : g ≡ asCommand h) (q : k ≡ withLength g n) where
-  set-header : k ≡ withLength (asCommand h) n
-  set-header = q ∙ ap (λ (z : SpacePacketHeader). withLength z n) p
-
-  pub set-checked : (b : Bool) → creatorCheck (creatorOf h x b) ≡ gives tt → creatorCheck (creatorOf k x true) ≡ gives tt
-  unfolding headerCheck
-  set-checked b c = ap (λ (z : SpacePacketHeader). creatorCheck (creatorOf z x true)) set-header ∙ c
-
--- what reserving leaves
-pub reserved-by : (a : Answer PusTcCreatorWithReservedAppData) (head l : List ℕ) (a′ : Answer PusTcCreatorWithReservedAppData) → a ≡ a′ → reservedLeft a head l ≡ reservedLeft a′ head l
-reserved-by a head l a′ e = ap (λ (z : Answer PusTcCreatorWithReservedAppData). reservedLeft z head l) e
-
-pub head-for : (h g k : SpacePacketHeader) (x : PusTcSecondaryHeader) (n total : ℕ) (b : Bool) (m l : List ℕ) → total ≡ totalFor 11 b n → g ≡ asCommand h
-    → k ≡ withLength g (total - 7) → m ≡ contentFor (creatorOf k x true) [] ++ drop 11 l → m ≡ headFor h x n b ++ drop 11 l
-head-for h g k x n total b m l e p q w =
-    w ∙ ap (λ (z : SpacePacketHeader). contentFor (creatorOf z x true) [] ++ drop 11 l)
-    (set-header h g k x (total - 7) p q ∙ ap (λ (i : ℕ). withLength (asCommand h) (i - 7)) e)

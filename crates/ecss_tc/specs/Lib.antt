@@ -1,3 +1,2 @@
 pub mod Creator
-pub mod Reserved
 pub mod Builder

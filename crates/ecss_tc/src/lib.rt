@@ -1,23 +1,22 @@
-// PUS-C telecommands written, after ECSS-E-ST-70-41C: the creator, the writer that fills its data in the buffer, and the
-// builder. A creator's and a builder's application data travel beside them.
+// PUS-C telecommands written, after ECSS-E-ST-70-41C: the creator and the builder. Their application data travel beside
+// them.
 ghost use mathlib.Core.Path.{_≡_};
 ghost use mathlib.Core.Bool.{true};
 ghost use mathlib.Core.List.{[], _++_};
-ghost use Prim.Native.Nat.{_+_, _≤_};
+ghost use Prim.Native.Nat.{_-_, _≤_};
 ghost use lib.Dec.{eqb};
 ghost use lib.ListN.{length, drop};
-ghost use Rattle.space_packet.specs.Answer.{gives, setIf, checkAnswer, sizeAnswer};
+ghost use Rattle.space_packet.specs.Bits.{pick};
+ghost use Rattle.space_packet.specs.Answer.{gives, _then_, setIf, checkAnswer, sizeAnswer};
 ghost use Rattle.space_packet.specs.Fields.{apidCheck, countCheck, idWithApid, typeNumber, idRaw, pscRaw};
-ghost use Rattle.space_packet.specs.Header.{totalOf, withId, withPsc, pscFrom, idFrom};
+ghost use Rattle.space_packet.specs.Header.{totalOf, withId, withPsc, pscFrom, idFrom, headerKept};
 ghost use Rattle.space_packet.specs.Wrote.{Wrote};
 ghost use Rattle.space_packet.specs.declared.PacketType.the-variants.{Tc};
 ghost use Rattle.ecss.specs.Version.{messageType};
-ghost use Rattle.ecss.specs.Write.{lengthOf};
-ghost use Rattle.ecss.specs.Reserve.{dataLenOf, boundsOf, boundsAnswer, within, beginsAt, fillIn, filledBy, finishIn, finished, plainIn};
+ghost use Rattle.ecss.specs.Write.{totalFor, lengthOf, lengthField, dataLenAnswer, writeIn};
 ghost use Rattle.ecss.specs.declared.PusVersion.the-variants.{PusC};
 ghost use Rattle.tc_header.specs.Header.{ackCheck, ackOf, secFrom, versionCheck};
-ghost use Rattle.ecss_tc.specs.Creator.{creatorOf, contentFor, octetsFor, withLength, asCommand, creatorCheck, lengthSet, newOf, creatorAnswer, keptIn, creatorKept, withHeader, withSec, updated, ownChecksum, crcAnswer, checksumOf, checksumAnswer, writeOf, plainOf, sameCreator};
-ghost use Rattle.ecss_tc.specs.Reserved.{reserveOf, reservedAnswer, headFor, reservedLeft};
+ghost use Rattle.ecss_tc.specs.Creator.{creatorOf, contentFor, octetsFor, withLength, asCommand, creatorCheck, newOf, creatorAnswer, keptIn, creatorKept, withHeader, withSec, updated, ownChecksum, crcAnswer, checksumOf, checksumAnswer, writeOf, plainOf, sameCreator};
 ghost use Rattle.ecss_tc.specs.Builder.{builderOf, defaultBuilder, builderKept, builderWithHeader, builderWithSec};
 use ecss::Crc16;
 use ecss::CreatorConfig;
@@ -26,8 +25,6 @@ use ecss::PusError;
 use ecss::PusVersion;
 use ecss::frame;
 use ecss::frame::DataLenResult;
-use ecss::reserve::BoundsResult;
-use ecss::reserve::Reservation;
 use space_packet::Apid;
 use space_packet::CheckResult;
 use space_packet::PacketId;
@@ -104,6 +101,75 @@ fn check(h: SpHeader, x: PusTcSecondaryHeader) -> CheckResult
     }
 }
 
+// The length field of a packet with that many octets of data, or where it is not set the caller's; 7, 6.
+fn length_for(
+    h: SpHeader,
+    x: PusTcSecondaryHeader,
+    app_data_len: usize,
+    config: CreatorConfig,
+) -> DataLenResult
+    ensures { λ r. ⌜ dataLenAnswer r ≡ (creatorCheck (creatorOf h x true) then λ _. pick (config .«set_ccsds_len») (lengthField 11 (config .«has_checksum») «app_data_len») (gives (h .«data_len»))) ⌝ }
+{
+    let c = check(h, x);
+    match c {
+        CheckResult::Err(e) => DataLenResult::Err(e),
+        CheckResult::Ok => {
+            if config.set_ccsds_len {
+                return frame::data_len_field(5, app_data_len, config.has_checksum);
+            }
+            DataLenResult::Ok(h.data_len)
+        }
+    }
+}
+
+// The header with the length field of that many octets of data, or the old one with the refusal; 7, 6.
+fn length_afresh(
+    h: SpHeader,
+    x: PusTcSecondaryHeader,
+    app_data_len: usize,
+    has_checksum: bool,
+) -> SpHeaderSet
+    ensures { λ r. ⌜ headerKept r ≡ setIf (creatorCheck (creatorOf h x true) then λ _. lengthField 11 «has_checksum» «app_data_len» then λ _. gives tt) h (withLength h (totalFor 11 «has_checksum» «app_data_len» - 7)) ⌝ }
+{
+    let config = CreatorConfig {
+        set_ccsds_len: true,
+        has_checksum,
+    };
+    let field = length_for(h, x, app_data_len, config);
+    match field {
+        DataLenResult::Err(e) => SpHeaderSet {
+            header: h,
+            result: CheckResult::Err(e),
+        },
+        DataLenResult::Ok(n) => SpHeaderSet {
+            header: with_length(h, n),
+            result: CheckResult::Ok,
+        },
+    }
+}
+
+// What a write refuses besides a field over its width, in its order; the answer is the total.
+fn check_room(
+    x: PusTcSecondaryHeader,
+    app_data_len: usize,
+    has_checksum: bool,
+    found: usize,
+) -> SizeResult
+    ensures { λ r. ⌜ sizeAnswer r ≡ (writeIn 11 «has_checksum» «app_data_len» found then λ total. versionCheck (x .version) then λ _. gives total) ⌝ }
+{
+    let room = frame::room_for(5, app_data_len, has_checksum, found);
+    match room {
+        SizeResult::Err(e) => SizeResult::Err(e),
+        SizeResult::Ok(total) => {
+            let v = x.check_version();
+            match v {
+                CheckResult::Err(e) => SizeResult::Err(e),
+                CheckResult::Ok => SizeResult::Ok(total),
+            }
+        }
+    }
+}
+
 // Writes octets 0 to 10.
 fn put_head(h: SpHeader, x: PusTcSecondaryHeader, buf: &mut [u8])
     requires { ⌜ (creatorCheck (creatorOf h x true) ≡ gives tt) × (versionCheck (x .version) ≡ gives tt) × (11 ≤ length (now buf)) ⌝ }
@@ -124,34 +190,14 @@ impl PusTcCreator {
         ensures { λ r. ⌜ creatorAnswer r ≡ newOf «sp_header» «sec_header» (length (now («app_data» .entry))) «packet_config» ⌝ }
     {
         let header = as_command(sp_header);
-        let c = check(header, sec_header);
-        match c {
-            CheckResult::Err(e) => PusTcCreatorResult::Err(e),
-            CheckResult::Ok => {
-                let made = PusTcCreator {
-                    sp_header: header,
-                    sec_header,
-                    has_checksum: packet_config.has_checksum,
-                };
-                if packet_config.set_ccsds_len {
-                    return made.length_set(app_data.len());
-                }
-                PusTcCreatorResult::Ok(made)
-            }
-        }
-    }
-
-    // With the length field of that many octets of data.
-    fn length_set(self, app_data_len: usize) -> PusTcCreatorResult
-        ensures { λ r. ⌜ creatorAnswer r ≡ lengthSet self «app_data_len» ⌝ }
-    {
-        let field = frame::data_len_field(5, app_data_len, self.has_checksum);
+        let field = length_for(header, sec_header, app_data.len(), packet_config);
         match field {
             DataLenResult::Err(e) => PusTcCreatorResult::Err(e),
-            DataLenResult::Ok(n) => {
-                let header = self.sp_header;
-                PusTcCreatorResult::Ok(self.set_sp_header(with_length(header, n)))
-            }
+            DataLenResult::Ok(n) => PusTcCreatorResult::Ok(PusTcCreator {
+                sp_header: with_length(header, n),
+                sec_header,
+                has_checksum: packet_config.has_checksum,
+            }),
         }
     }
 
@@ -446,26 +492,7 @@ impl PusTcCreator {
     {
         let h = self.sp_header;
         let x = self.sec_header;
-        let c = check(h, x);
-        match c {
-            CheckResult::Err(e) => PusTcCreatorSet {
-                creator: self,
-                result: CheckResult::Err(e),
-            },
-            CheckResult::Ok => {
-                let set = self.length_set(app_data.len());
-                match set {
-                    PusTcCreatorResult::Err(e) => PusTcCreatorSet {
-                        creator: self,
-                        result: CheckResult::Err(e),
-                    },
-                    PusTcCreatorResult::Ok(creator) => PusTcCreatorSet {
-                        creator,
-                        result: CheckResult::Ok,
-                    },
-                }
-            }
-        }
+        self.edited(length_afresh(h, x, app_data.len(), self.has_checksum))
     }
 
     // Whether the headers, the data and the choice of checksum are the same.
@@ -589,19 +616,7 @@ impl PusTcCreator {
         let c = check(h, x);
         match c {
             CheckResult::Err(e) => SizeResult::Err(e),
-            CheckResult::Ok => {
-                let room = frame::room_for(5, app_data_len, self.has_checksum, found);
-                match room {
-                    SizeResult::Err(e) => SizeResult::Err(e),
-                    SizeResult::Ok(total) => {
-                        let v = x.check_version();
-                        match v {
-                            CheckResult::Err(e) => SizeResult::Err(e),
-                            CheckResult::Ok => SizeResult::Ok(total),
-                        }
-                    }
-                }
-            }
+            CheckResult::Ok => check_room(x, app_data_len, self.has_checksum, found),
         }
     }
 
@@ -616,128 +631,6 @@ impl PusTcCreator {
         ensures { λ r. ⌜ Wrote (writeOf self (length (now («app_data» .entry))) (length (now (buf .entry)))) (octetsFor self (now («app_data» .entry))) (now (buf .entry)) r (now (buf .exit)) ⌝ }
     {
         self.write_to_slice_crc_no_table(app_data, buf)
-    }
-}
-
-// ---- the writer whose data is filled in the buffer
-
-// A reservation by value; the buffer is lent again to each call. Each but the first and len_written answers 8, then 1.
-pub struct PusTcCreatorWithReservedAppData(Reservation);
-
-pub enum ReservedResult {
-    Ok(PusTcCreatorWithReservedAppData),
-    Err(PusError),
-}
-
-impl PusTcCreatorWithReservedAppData {
-    // Writes octets 0 to 10; 7, 6 for the machine size, 1, 6 for the packet limit, 3.
-    pub fn new(
-        buf: &mut [u8],
-        sp_header: SpHeader,
-        sec_header: PusTcSecondaryHeader,
-        app_data_len: usize,
-        has_checksum: bool,
-    ) -> ReservedResult
-        ensures { λ r. ⌜ (reservedAnswer r ≡ reserveOf «sp_header» «sec_header» «app_data_len» «has_checksum» (length (now (buf .entry)))) × (now (buf .exit) ≡ reservedLeft (reserveOf «sp_header» «sec_header» «app_data_len» «has_checksum» (length (now (buf .entry)))) (headFor «sp_header» «sec_header» «app_data_len» «has_checksum») (now (buf .entry))) ⌝ }
-    {
-        let c = check(sp_header, sec_header);
-        match c {
-            CheckResult::Err(e) => ReservedResult::Err(e),
-            CheckResult::Ok => {
-                let room = frame::room_for(5, app_data_len, has_checksum, buf.len());
-                match room {
-                    SizeResult::Err(e) => ReservedResult::Err(e),
-                    SizeResult::Ok(total) => {
-                        if 65542 < total {
-                            return ReservedResult::Err(PusError::PacketTooLong(app_data_len));
-                        }
-                        let v = sec_header.check_version();
-                        match v {
-                            CheckResult::Err(e) => ReservedResult::Err(e),
-                            CheckResult::Ok => {
-                                let header = with_length(as_command(sp_header), (total - 7) as u16);
-                                put_head(header, sec_header, buf);
-                                ReservedResult::Ok(PusTcCreatorWithReservedAppData(Reservation {
-                                    start: PUS_TC_MIN_LEN_WITHOUT_APP_DATA,
-                                    total,
-                                    has_checksum,
-                                }))
-                            }
-                        }
-                    }
-                }
-            }
-        }
-    }
-
-    // The length of the whole packet.
-    pub fn len_written(self) -> usize
-        ensures { λ r. ⌜ r ≡ self .0 .total ⌝ }
-    {
-        self.0.total
-    }
-
-    // The length of the data; 8.
-    pub fn app_data_len(self) -> SizeResult
-        ensures { λ r. ⌜ sizeAnswer r ≡ dataLenOf 11 (self .0) ⌝ }
-    {
-        let held = self.0;
-        held.data_len(5)
-    }
-
-    // Where the data lies in a buffer of `found` octets.
-    pub fn app_data_bounds(self, found: usize) -> BoundsResult
-        ensures { λ r. ⌜ boundsAnswer r ≡ boundsOf 11 (self .0) found ⌝ }
-    {
-        let held = self.0;
-        held.bounds(5, found)
-    }
-
-    // The data, to be read; the empty part where it is refused.
-    pub fn app_data(self, buf: &[u8]) -> &[u8]
-        ensures { λ r. ⌜ now r ≡ within (boundsOf 11 (self .0) (length (now (buf .entry)))) (now (buf .entry)) ⌝ }
-    {
-        let held = self.0;
-        held.part(5, buf)
-    }
-
-    // The data, to be written; the empty part where it is refused.
-    pub fn app_data_mut(self, buf: &mut [u8]) -> &mut [u8]
-        ensures { λ r. ⌜ (now r ≡ within (boundsOf 11 (self .0) (length (now (buf .entry)))) (now (buf .entry)))
-            × ((r .ptr .0 ≡ buf .entry .ptr .0) × (r .ptr .1 ≡ buf .entry .ptr .1 + beginsAt (boundsOf 11 (self .0) (length (now (buf .entry)))))) ⌝ }
-    {
-        let held = self.0;
-        held.part_mut(5, buf)
-    }
-
-    // Fills the data in from its start; the octets before it and after it stay as they are.
-    pub fn fill_app_data(self, data: &[u8], buf: &mut [u8]) -> SizeResult
-        ensures { λ r. ⌜ (sizeAnswer r ≡ fillIn 11 (self .0) (length (now (buf .entry))) (length (now («data» .entry)))) × (now (buf .exit) ≡ filledBy (fillIn 11 (self .0) (length (now (buf .entry))) (length (now («data» .entry)))) 11 (now («data» .entry)) (now (buf .entry))) ⌝ }
-    {
-        let held = self.0;
-        held.fill(5, data, buf)
-    }
-
-    // Writes the checksum, where there is one, and answers the total.
-    pub fn finalize(self, buf: &mut [u8]) -> SizeResult
-        ensures { λ r. ⌜ Wrote (finishIn 11 (self .0) (length (now (buf .entry)))) (finished (self .0) (now (buf .entry))) (now (buf .entry)) r (now (buf .exit)) ⌝ }
-    {
-        let held = self.0;
-        held.finalize(5, buf)
-    }
-
-    pub fn finalize_checksum_no_table(self, buf: &mut [u8]) -> SizeResult
-        ensures { λ r. ⌜ Wrote (finishIn 11 (self .0) (length (now (buf .entry)))) (finished (self .0) (now (buf .entry))) (now (buf .entry)) r (now (buf .exit)) ⌝ }
-    {
-        self.finalize(buf)
-    }
-
-    // Writes nothing, and answers the total less the checksum's place.
-    pub fn finalize_no_checksum(self, buf: &[u8]) -> SizeResult
-        ensures { λ r. ⌜ sizeAnswer r ≡ plainIn 11 (self .0) (length (now (buf .entry))) ⌝ }
-    {
-        let held = self.0;
-        held.finalize_no_checksum(5, buf)
     }
 }
 

@@ -5,8 +5,6 @@ use ecss::PusError;
 use ecss_tc::PusTcBuilder;
 use ecss_tc::PusTcCreator;
 use ecss_tc::PusTcCreatorResult;
-use ecss_tc::PusTcCreatorWithReservedAppData;
-use ecss_tc::ReservedResult;
 use libc::STDOUT_FILENO;
 use space_packet::Apid;
 use space_packet::ApidResult;
@@ -16,6 +14,8 @@ use space_packet::SizeResult;
 use space_packet::SpHeader;
 use strict::Verdict;
 use tc_header::PusTcSecondaryHeader;
+use tc_reserved::PusTcCreatorWithReservedAppData;
+use tc_reserved::ReservedResult;
 
 fn say(text: &[u8]) {
     io::write_all(STDOUT_FILENO, text);

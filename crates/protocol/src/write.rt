@@ -6,15 +6,13 @@ use crate::show;
 use ecss::CreatorConfig;
 use ecss::MessageTypeId;
 use ecss::PusVersion;
-use ecss::reserve::BoundsResult;
 use ecss_tc::CrcResult;
 use ecss_tc::PusTcBuilder;
 use ecss_tc::PusTcBuilderSet;
 use ecss_tc::PusTcCreator;
 use ecss_tc::PusTcCreatorResult;
 use ecss_tc::PusTcCreatorSet;
-use ecss_tc::PusTcCreatorWithReservedAppData;
-use ecss_tc::ReservedResult;
+use reserve::BoundsResult;
 use space_packet::Apid;
 use space_packet::ApidResult;
 use space_packet::CheckResult;
@@ -26,6 +24,8 @@ use space_packet::SizeResult;
 use space_packet::SpHeader;
 use tc_header::PusTcSecondaryHeader;
 use tc_read::PusTcRecordResult;
+use tc_reserved::PusTcCreatorWithReservedAppData;
+use tc_reserved::ReservedResult;
 
 // ---- the creator
 

@@ -9,10 +9,10 @@ use Rattle.space_packet.specs.Wrote.{Wrote}
 use Rattle.space_packet.specs.declared.SpacePacketHeader.{SpacePacketHeader}
 use Rattle.space_packet.specs.declared.SizeResult.{SizeResult}
 use Rattle.space_packet.proofs.Answers.{gives-inj, never}
-use Rattle.ecss.specs.Reserve.{fillIn, filledBy, finishIn, finished}
+use Rattle.reserve.specs.Reserve.{fillIn, filledBy, finishIn, finished}
 use Rattle.tc_header.specs.declared.PusTcSecondaryHeader.{PusTcSecondaryHeader}
-use Rattle.ecss_tc.specs.Reserved.{reserveOf, reservedAnswer, headFor, reservedLeft}
-use Rattle.ecss_tc.specs.declared.PusTcCreatorWithReservedAppData.{PusTcCreatorWithReservedAppData}
+use Rattle.tc_reserved.specs.Reserved.{reserveOf, reservedAnswer, headFor, reservedLeft}
+use Rattle.tc_reserved.specs.declared.PusTcCreatorWithReservedAppData.{PusTcCreatorWithReservedAppData}
 use Rattle.strict.specs.Verdict.{strictOf}
 use Rattle.demand3.specs.Rules.{Handed, headerFor, Room, reportFor, FinishedBy}
 use Rattle.demand3.proofs.Demand3.{reserved-accepted}

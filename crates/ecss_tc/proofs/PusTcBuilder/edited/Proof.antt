@@ -1,3 +1,5 @@
+use mathlib.Core.Path.{ap}
+use Rattle.space_packet.specs.Answer.{checkAnswer}
 use borrow.Author.Needs.{needs}
 use Rattle.ecss_tc.proofs.PusTcBuilder.edited.Statement.{statement}
 use Rattle.ecss_tc.proofs.PusTcBuilder.edited.Tie as tie
@@ -6,7 +8,7 @@ with-header-requires : tie.Need-with-header-requires
 with-header-requires c κs = search needs
 
 returns : tie.Need-returns
-returns c = cc
+returns c = ap (λ t. record { passed = checkAnswer (c .before .before .args .set .result); kept = t }) (c .with-header .ensures)
 
 pub edited-spec : {M : Type 1} → statement M
 edited-spec = tie.close (tie.spec with-header-requires returns)

@@ -1,3 +1,7 @@
+use mathlib.Core.Path.{_∙_, ap, ap₂}
+use Rattle.space_packet.specs.Answer.{setIf}
+use Rattle.space_packet.specs.Header.{withId}
+use Rattle.ecss_tc.specs.Builder.{builderWithHeader}
 use borrow.Author.Needs.{needs}
 use Rattle.ecss_tc.proofs.PusTcBuilder.with_packet_id.Statement.{statement}
 use Rattle.ecss_tc.proofs.PusTcBuilder.with_packet_id.Tie as tie
@@ -15,7 +19,7 @@ kept-if-requires : tie.Need-kept-if-requires
 kept-if-requires c κs = search needs
 
 returns : tie.Need-returns
-returns c = cc
+returns c = let a = c .before .before .before .before .before .before .args in c .kept-if .ensures ∙ ap₂ (λ p t. setIf p (a .self) t) (c .before .before .check .ensures) (c .before .with-header .ensures ∙ ap (λ i. builderWithHeader (a .self) (withId (a .self .«sp_header») i)) (c .before .before .before .new-for-tc .ensures))
 
 pub with-packet-id-spec : {M : Type 1} → statement M
 with-packet-id-spec =

@@ -1,6 +1,6 @@
 use Rattle.ecss_tc.specs.Creator.{writeOf}
 use Rattle.space_packet.proofs.Answers.{gives-then, refuses-then}
-use Rattle.space_packet.specs.Answer.{checkAnswer, sizeAnswer}
+use Rattle.space_packet.specs.Answer.{checkAnswer}
 use mathlib.Core.Path.{_∙_, ap, sym}
 use borrow.Author.Needs.{needs}
 use Rattle.ecss_tc.proofs.PusTcCreator.check_write.Statement.{statement}
@@ -15,23 +15,8 @@ enum-known-c c = search needs
 enum-told : tie.Need-enum-told
 enum-told c = search needs
 
-room-for-requires : tie.Need-room-for-requires
-room-for-requires c κs = search needs
-
-enum-known-room : tie.Need-enum-known-room
-enum-known-room c = search needs
-
-enum-known-room-2 : tie.Need-enum-known-room-2
-enum-known-room-2 c = search needs
-
-check-version-requires : tie.Need-check-version-requires
-check-version-requires c κs = search needs
-
-enum-known-v : tie.Need-enum-known-v
-enum-known-v c = search needs
-
-enum-told-2 : tie.Need-enum-told-2
-enum-told-2 c = search needs
+check-room-requires : tie.Need-check-room-requires
+check-room-requires c κs = search needs
 
 returns : tie.Need-returns
 unfolding writeOf
@@ -39,30 +24,9 @@ returns c = let e = sym (c .before .before .before .check .ensures) ∙ ap check
 
 returns-2 : tie.Need-returns-2
 unfolding writeOf
-returns-2 c = let e = sym (c .before .before .before .before .before .before .check .ensures) ∙ ap checkAnswer (c .before .before .before .before .enum-told .given .1) in let f = sym (c .before .before .before .room-for .ensures) ∙ ap sizeAnswer (c .before .room .given .1) in sym (gives-then _ _ _ e ∙ refuses-then _ _ _ f)
-
-returns-3 : tie.Need-returns-3
-unfolding writeOf
-returns-3 c = let e = sym (c .before .before .before .before .before .before .before .before .before .before .check .ensures) ∙ ap checkAnswer (c .before .before .before .before .before .before .before .before .enum-told .given .1) in let f = sym (c .before .before .before .before .before .before .before .room-for .ensures) ∙ ap sizeAnswer (c .before .before .before .before .before .room2 .given .1) in let v = sym (c .before .before .before .check-version .ensures) ∙ ap checkAnswer (c .before .v .given .1) in sym (gives-then _ _ _ e ∙ gives-then _ _ _ f ∙ refuses-then _ _ _ v)
-
-returns-4 : tie.Need-returns-4
-unfolding writeOf
-returns-4 c = let e = sym (c .before .before .before .before .before .before .before .before .before .check .ensures) ∙ ap checkAnswer (c .before .before .before .before .before .before .before .enum-told .given .1) in let f = sym (c .before .before .before .before .before .before .room-for .ensures) ∙ ap sizeAnswer (c .before .before .before .before .room2 .given .1) in let v = sym (c .before .before .check-version .ensures) ∙ ap checkAnswer (c .enum-told2 .given .1) in sym (gives-then _ _ _ e ∙ gives-then _ _ _ f ∙ gives-then _ _ _ v)
+returns-2 c = let e = sym (c .before .before .before .check .ensures) ∙ ap checkAnswer (c .before .enum-told .given .1) in c .check-room .ensures ∙ sym (gives-then _ _ _ e)
 
 pub check-write-spec : {M : Type 1} → statement M
 check-write-spec =
     tie.close
-    (tie.spec
-    check-requires
-    enum-known-c
-    enum-told
-    room-for-requires
-    enum-known-room
-    enum-known-room-2
-    check-version-requires
-    enum-known-v
-    enum-told-2
-    returns
-    returns-2
-    returns-3
-    returns-4)
+    (tie.spec check-requires enum-known-c enum-told check-room-requires returns returns-2)

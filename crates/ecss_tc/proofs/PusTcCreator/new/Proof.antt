@@ -1,6 +1,10 @@
-use Rattle.ecss_tc.proofs.Made.{made-by, made-plain, made-refused, made-set}
-use Rattle.space_packet.specs.Answer.{checkAnswer}
 use mathlib.Core.Path.{_∙_, ap, sym}
+use lib.ListN.{length}
+use Rattle.space_packet.proofs.Answers.{gives-then, refuses-then}
+use Rattle.space_packet.specs.Answer.{gives}
+use Rattle.ecss.specs.Write.{dataLenAnswer}
+use Rattle.ecss_tc.specs.Creator.{creatorOf, withHeader}
+use Rattle.ecss_tc.proofs.Made.{made-by, made-length}
 use borrow.Author.Needs.{needs}
 use Rattle.ecss_tc.proofs.PusTcCreator.new.Statement.{statement}
 use Rattle.ecss_tc.proofs.PusTcCreator.new.Tie as tie
@@ -8,36 +12,32 @@ use Rattle.ecss_tc.proofs.PusTcCreator.new.Tie as tie
 as-command-requires : tie.Need-as-command-requires
 as-command-requires c κs = search needs
 
-check-requires : tie.Need-check-requires
-check-requires c κs = search needs
+length-for-requires : tie.Need-length-for-requires
+length-for-requires c κs = search needs
 
-enum-known-c : tie.Need-enum-known-c
-enum-known-c c = search needs
+enum-known-field : tie.Need-enum-known-field
+enum-known-field c = search needs
 
-enum-told : tie.Need-enum-told
-enum-told c = search needs
+enum-known-field-2 : tie.Need-enum-known-field-2
+enum-known-field-2 c = search needs
 
-length-set-requires : tie.Need-length-set-requires
-length-set-requires c κs = search needs
+with-length-requires : tie.Need-with-length-requires
+with-length-requires c κs = search needs
 
 returns : tie.Need-returns
-returns c = let e = sym (c .before .before .before .before .check .ensures) ∙ ap checkAnswer (c .before .before .enum-told .given .1) in c .length-set .ensures ∙ sym (made-set _ _ _ e (c .before .if1 .taken)) ∙ made-by _ (c .before .before .before .before .before .before .before .args .sp-header) _ _ _ _ (c .before .before .before .before .before .as-command .ensures)
+returns c = let a = c .before .before .before .before .before .before .args in let e = sym (c .before .before .before .length-for .ensures) ∙ ap dataLenAnswer (c .before .field .given .1) in let g = c .before .before .before .before .as-command in let t = creatorOf (g .result) (a .sec-header) (a .packet-config .«has_checksum») in sym (made-length t (a .packet-config .«set_ccsds_len») (length (a .app-data .now)) ∙ refuses-then _ _ _ e) ∙ made-by (g .result) (a .sp-header) (a .sec-header) (a .packet-config .«has_checksum») (a .packet-config .«set_ccsds_len») (length (a .app-data .now)) (g .ensures)
 
 returns-2 : tie.Need-returns-2
-returns-2 c = let e = sym (c .before .before .before .check .ensures) ∙ ap checkAnswer (c .before .c .given .1) in sym (made-refused _ _ _ _ e) ∙ made-by _ (c .before .before .before .before .before .before .args .sp-header) _ _ _ _ (c .before .before .before .before .as-command .ensures)
-
-returns-3 : tie.Need-returns-3
-returns-3 c = let e = sym (c .before .before .before .check .ensures) ∙ ap checkAnswer (c .before .enum-told .given .1) in sym (made-plain _ _ _ e (c .if1 .left)) ∙ made-by _ (c .before .before .before .before .before .before .args .sp-header) _ _ _ _ (c .before .before .before .before .as-command .ensures)
+returns-2 c = let a = c .before .before .before .before .before .before .before .args in let e = sym (c .before .before .before .before .length-for .ensures) ∙ ap dataLenAnswer (c .before .before .field2 .given .1) in let g = c .before .before .before .before .before .as-command in let t = creatorOf (g .result) (a .sec-header) (a .packet-config .«has_checksum») in ap (λ h. gives (withHeader t h)) (c .with-length .ensures) ∙ sym (made-length t (a .packet-config .«set_ccsds_len») (length (a .app-data .now)) ∙ gives-then _ _ _ e) ∙ made-by (g .result) (a .sp-header) (a .sec-header) (a .packet-config .«has_checksum») (a .packet-config .«set_ccsds_len») (length (a .app-data .now)) (g .ensures)
 
 pub new-spec : {M : Type 1} → statement M
 new-spec =
     tie.close
     (tie.spec
     as-command-requires
-    check-requires
-    enum-known-c
-    enum-told
-    length-set-requires
+    length-for-requires
+    enum-known-field
+    enum-known-field-2
+    with-length-requires
     returns
-    returns-2
-    returns-3)
+    returns-2)

@@ -1,0 +1,3 @@
+pub mod Reserved
+pub mod Filled
+pub mod Determined

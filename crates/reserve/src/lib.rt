@@ -1,0 +1,177 @@
+// A packet whose headers stand in a buffer and whose data is filled in there: a reservation by value, the buffer lent again
+// to each call. Each call takes the size of the secondary header, and answers 8, then 1.
+ghost use mathlib.Core.Path.{_≡_};
+ghost use Prim.Native.Nat.{_+_};
+ghost use lib.ListN.{length};
+ghost use Rattle.space_packet.specs.Answer.{sizeAnswer, checkAnswer};
+ghost use Rattle.space_packet.specs.Wrote.{Wrote};
+ghost use Rattle.ecss.specs.Frame.{trailer};
+ghost use Rattle.reserve.specs.Reserve.{holds, holdsIn, dataLenOf, boundsOf, boundsAnswer, within, beginsAt, fillIn, filledBy, finishIn, finished, plainIn};
+use ecss::frame;
+use space_packet::ByteConversionError;
+use space_packet::CheckResult;
+use space_packet::PusError;
+use space_packet::SizeResult;
+
+pub struct Reservation {
+    // The octet at which the data starts.
+    pub start: usize,
+    // The octets of the whole packet.
+    pub total: usize,
+    pub has_checksum: bool,
+}
+
+// The octets from `start` up to `end`.
+pub struct Bounds {
+    pub start: usize,
+    pub end: usize,
+}
+
+pub enum BoundsResult {
+    Ok(Bounds),
+    Err(PusError),
+}
+
+impl Reservation {
+    fn trailer(self) -> usize
+        ensures { λ r. ⌜ r ≡ trailer (self .«has_checksum») ⌝ }
+    {
+        if self.has_checksum { 2 } else { 0 }
+    }
+
+    // 8 where the reservation does not hold together.
+    fn check(self, size: u8) -> CheckResult
+        ensures { λ r. ⌜ checkAnswer r ≡ holds (6 + size) self ⌝ }
+    {
+        let start = 6 + size as usize;
+        let total = self.total;
+        if self.start != start {
+            return CheckResult::Err(PusError::Reservation);
+        }
+        if total < start + self.trailer() {
+            return CheckResult::Err(PusError::Reservation);
+        }
+        if 65542 < total {
+            return CheckResult::Err(PusError::Reservation);
+        }
+        CheckResult::Ok
+    }
+
+    // 8, then 1 where a buffer of `found` octets has no room for it.
+    fn check_in(self, size: u8, found: usize) -> CheckResult
+        ensures { λ r. ⌜ checkAnswer r ≡ holdsIn (6 + size) self found ⌝ }
+    {
+        let c = self.check(size);
+        match c {
+            CheckResult::Err(e) => CheckResult::Err(e),
+            CheckResult::Ok => {
+                let expected = self.total;
+                if found < expected {
+                    return CheckResult::Err(PusError::ByteConversion(ByteConversionError::ToSliceTooSmall {
+                        found,
+                        expected,
+                    }));
+                }
+                CheckResult::Ok
+            }
+        }
+    }
+
+    // How long the data is.
+    pub fn data_len(self, size: u8) -> SizeResult
+        ensures { λ r. ⌜ sizeAnswer r ≡ dataLenOf (6 + size) self ⌝ }
+    {
+        let c = self.check(size);
+        match c {
+            CheckResult::Err(e) => SizeResult::Err(e),
+            CheckResult::Ok => SizeResult::Ok(self.total - self.trailer() - self.start),
+        }
+    }
+
+    // Where the data lies in a buffer of `found` octets.
+    pub fn bounds(self, size: u8, found: usize) -> BoundsResult
+        ensures { λ r. ⌜ boundsAnswer r ≡ boundsOf (6 + size) self found ⌝ }
+    {
+        let c = self.check_in(size, found);
+        match c {
+            CheckResult::Err(e) => BoundsResult::Err(e),
+            CheckResult::Ok => BoundsResult::Ok(Bounds {
+                start: self.start,
+                end: self.total - self.trailer(),
+            }),
+        }
+    }
+
+    // The data, to be read; the empty part where it is refused.
+    pub fn part(self, size: u8, buf: &[u8]) -> &[u8]
+        ensures { λ r. ⌜ now r ≡ within (boundsOf (6 + size) self (length (now (buf .entry)))) (now (buf .entry)) ⌝ }
+    {
+        let b = self.bounds(size, buf.len());
+        match b {
+            BoundsResult::Err(_) => &buf[..0],
+            BoundsResult::Ok(at) => {
+                let start = at.start;
+                let end = at.end;
+                &buf[start..end]
+            }
+        }
+    }
+
+    // The data, to be written; the empty part where it is refused.
+    pub fn part_mut(self, size: u8, buf: &mut [u8]) -> &mut [u8]
+        ensures { λ r. ⌜ (now r ≡ within (boundsOf (6 + size) self (length (now (buf .entry)))) (now (buf .entry)))
+            × ((r .ptr .0 ≡ buf .entry .ptr .0) × (r .ptr .1 ≡ buf .entry .ptr .1 + beginsAt (boundsOf (6 + size) self (length (now (buf .entry)))))) ⌝ }
+    {
+        let b = self.bounds(size, buf.len());
+        match b {
+            BoundsResult::Err(_) => &mut buf[..0],
+            BoundsResult::Ok(at) => {
+                let start = at.start;
+                let end = at.end;
+                &mut buf[start..end]
+            }
+        }
+    }
+
+    // Lends the buffer's middle on to be filled with `data` from its start; 1 where there is more data than was reserved.
+    pub fn fill(self, size: u8, data: &[u8], buf: &mut [u8]) -> SizeResult
+        ensures { λ r. ⌜ (sizeAnswer r ≡ fillIn (6 + size) self (length (now (buf .entry))) (length (now («data» .entry)))) × (now (buf .exit) ≡ filledBy (fillIn (6 + size) self (length (now (buf .entry))) (length (now («data» .entry)))) (6 + size) (now («data» .entry)) (now (buf .entry))) ⌝ }
+    {
+        let b = self.bounds(size, buf.len());
+        match b {
+            BoundsResult::Err(e) => SizeResult::Err(e),
+            BoundsResult::Ok(at) => {
+                let start = at.start;
+                let end = at.end;
+                frame::fill(&mut buf[start..end], data)
+            }
+        }
+    }
+
+    // Writes the checksum, where there is one, over what the buffer holds; the answer is the total.
+    pub fn finalize(self, size: u8, buf: &mut [u8]) -> SizeResult
+        ensures { λ r. ⌜ Wrote (finishIn (6 + size) self (length (now (buf .entry)))) (finished self (now (buf .entry))) (now (buf .entry)) r (now (buf .exit)) ⌝ }
+    {
+        let c = self.check_in(size, buf.len());
+        match c {
+            CheckResult::Err(e) => SizeResult::Err(e),
+            CheckResult::Ok => {
+                if self.has_checksum {
+                    return frame::seal(size, self.total - 2 - self.start, buf);
+                }
+                SizeResult::Ok(self.total)
+            }
+        }
+    }
+
+    // Writes nothing; the answer is the total less the checksum's place.
+    pub fn finalize_no_checksum(self, size: u8, buf: &[u8]) -> SizeResult
+        ensures { λ r. ⌜ sizeAnswer r ≡ plainIn (6 + size) self (length (now (buf .entry))) ⌝ }
+    {
+        let c = self.check_in(size, buf.len());
+        match c {
+            CheckResult::Err(e) => SizeResult::Err(e),
+            CheckResult::Ok => SizeResult::Ok(self.total - self.trailer()),
+        }
+    }
+}
