@@ -3,7 +3,7 @@ use Prim.Native.Nat.{ℕ}
 use mathlib.Core.Path.{_≡_, refl, sym, ap, _∙_}
 use mathlib.Core.List.{List}
 use lib.ListN.{length}
-use Rattle.space_packet.specs.Answer.{Answer, Passed, Kept, gives, refuses, _then_, setIf, inRange, checkAnswer, sizeAnswer}
+use Rattle.space_packet.specs.Answer.{Answer, Kept, gives, _then_, setIf, inRange, checkAnswer, sizeAnswer}
 use Rattle.space_packet.specs.Fields.{apidCheck, countCheck, apidAnswer, seqCountAnswer, idWithApid, idKept}
 use Rattle.space_packet.specs.Header.{headerCheck, spHeaderAnswer, headerRead, headerWrite, headerOctets, headerOf, pscFrom, withId, withPsc, headerKept}
 use Rattle.space_packet.specs.Wrote.{Wrote}

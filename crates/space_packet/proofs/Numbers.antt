@@ -3,7 +3,6 @@ use Prim.Native.Nat.{ℕ, zero, suc, _+_, _*_, _/_, _%_, _≤_, _<_}
 use mathlib.Core.Path.{_≡_, refl, sym, ap, _∙_}
 use mathlib.Core.Bool.{Bool, true, false, Bool·beq}
 use native.Mathlib.Omega.{arith}
-use native.Mathlib.Nat.{zero-add}
 use lib.Dec.{eqb, lit≤}
 use mir.Val.{boolByte}
 use Rattle.space_packet.specs.Bits.{pick, lowest, flagNumber}
@@ -100,9 +99,6 @@ id-back v i a =
     let ef : w / 2048 % 2 ≡ flagNumber (i .«sec_header_flag») % 2 = omega arith in
     let ea : w % 2048 ≡ i .apid .0 = omega arith in
     λ k. record { «packet_type» = (ap (λ (n : ℕ). pick (eqb n 1) Tc Tm) et ∙ type-back (i .«packet_type»)) k; «sec_header_flag» = (ap (λ (n : ℕ). eqb n 1) ef ∙ flag-back (i .«sec_header_flag»)) k; apid = record { 0 = ea k } }
-
-pub id-raw-back : (i : PacketId) → i .apid .0 ≤ 2047 → idOf (idRaw i) ≡ i
-id-raw-back i a = ap idOf (sym (zero-add (idRaw i))) ∙ id-back 0 i a
 
 -- `omega` takes the two cuts of the word one at a time
 joined : (t f a k n : ℕ) → n ≡ t * 4096 + k → k ≡ f * 2048 + a → t * 4096 + f * 2048 + a ≡ n

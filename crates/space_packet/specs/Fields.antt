@@ -1,4 +1,4 @@
--- The fields of the primary header, in the numbers that stand in its octets. CCSDS 133.0-B, 4.1.3.
+-- The fields of the primary header, in the numbers that stand in its octets. CCSDS 133.0-B-2, 4.1.3.
 use Prim.Native.Nat.{ℕ, _+_, _*_, _/_, _%_}
 use Rattle.space_packet.specs.Bits.{pick, lowest, flagNumber}
 use Rattle.space_packet.specs.Answer.{Answer, Kept, Passed, gives, refuses, inRange, numbersOf, checkAnswer}

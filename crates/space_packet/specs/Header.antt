@@ -1,4 +1,4 @@
--- The primary header: its row of fields, its octets, and its reading. CCSDS 133.0-B, 4.1.3.
+-- The primary header: its row of fields, its octets, and its reading. CCSDS 133.0-B-2, 4.1.3.
 use Prim.Native.Nat.{ℕ, _+_, _*_, _/_, _≤_}
 use mathlib.Core.Bool.{Bool, _&&_}
 use mathlib.Core.List.{List, [], _∷_, _++_}
@@ -20,8 +20,8 @@ use Rattle.space_packet.specs.declared.SpHeaderSet.{SpHeaderSet}
 
 -- ---- the layout
 
--- 4.1.3.1, figure 4-2: packet version number 3 bits, packet type 1, secondary header flag 1, APID 11, sequence flags 2,
--- packet sequence count 14, packet data length 16
+-- 4.1.3, the packet primary header: packet version number 3 bits, packet type 1, secondary header flag 1, APID 11,
+-- sequence flags 2, packet sequence count 14, packet data length 16
 unfoldable pub headerRow : SpacePacketHeader → List Bool
 headerRow h =
     bits 3 (h .version) ++ bits 1 (typeNumber (h .«packet_id» .«packet_type»))
@@ -37,7 +37,7 @@ unfoldable pub readHeader : List ℕ → SpacePacketHeader
 readHeader s =
     record { version = word s 0 / 8192; «packet_id» = idOf (word s 0); psc = pscOf (word s 2); «data_len» = word s 4 }
 
--- 4.1.3.5.3: the length field is the number of octets after the primary header, less one
+-- 4.1.3.5, packet data length: the number of octets after the primary header, less one
 abbrev pub totalOf : SpacePacketHeader → ℕ
 totalOf h = h .«data_len» + 7
 

@@ -1,12 +1,12 @@
-// The space packet primary header of CCSDS 133.0-B, and the refusals that every crate above answers with.
+// The space packet primary header of CCSDS 133.0-B-2, and the refusals that every crate above answers with.
 ghost use mathlib.Core.Path.{_≡_};
 ghost use mathlib.Core.List.{_++_};
 ghost use mathlib.Core.Bool.{true, false};
 ghost use Prim.Native.Nat.{_≤_};
-ghost use lib.ListN.{length, drop};
+ghost use lib.ListN.{length, drop, getD};
 ghost use lib.Dec.{eqb};
-ghost use Rattle.space_packet.specs.Answer.{numbersOf, gives, _then_, setIf, inRange, checkAnswer};
-ghost use Rattle.space_packet.specs.Bits.{word};
+ghost use Rattle.space_packet.specs.Answer.{bytesNumbers, numbersOf, gives, _then_, setIf, inRange, checkAnswer};
+ghost use Rattle.space_packet.specs.Bits.{be16, word};
 ghost use Rattle.space_packet.specs.Fields.{apidCheck, countCheck, apidAnswer, seqCountAnswer, typeNumber, typeOf, flagsNumber, flagsOf, idRaw, idOf, pscRaw, pscOf, idWithApid, idKept};
 ghost use Rattle.space_packet.specs.Header.{headerOctets, totalOf, InRange, headerCheck, spHeaderAnswer, headerRead, headerWrite, headerOf, idFrom, pscFrom, withId, withPsc, headerKept, sameHeader};
 ghost use Rattle.space_packet.specs.Wrote.{Wrote};
@@ -22,6 +22,23 @@ pub const CCSDS_HEADER_LEN: usize = 6;
 pub enum ByteConversionError {
     ToSliceTooSmall { found: usize, expected: usize },
     FromSliceTooSmall { found: usize, expected: usize },
+}
+
+impl ByteConversionError {
+    fn number(self) -> u8
+        ensures { λ r. ⌜ r ≡ bytesNumbers self .number ⌝ }
+    {
+        match self {
+            ByteConversionError::ToSliceTooSmall {
+                found: _,
+                expected: _,
+            } => 1,
+            ByteConversionError::FromSliceTooSmall {
+                found: _,
+                expected: _,
+            } => 2,
+        }
+    }
 }
 
 // Every refusal of the library, in the order of its numbers.
@@ -54,16 +71,7 @@ impl PusError {
         ensures { λ r. ⌜ r ≡ numbersOf self .number ⌝ }
     {
         match self {
-            PusError::ByteConversion(e) => match e {
-                ByteConversionError::ToSliceTooSmall {
-                    found: _,
-                    expected: _,
-                } => 1,
-                ByteConversionError::FromSliceTooSmall {
-                    found: _,
-                    expected: _,
-                } => 2,
-            },
+            PusError::ByteConversion(e) => e.number(),
             PusError::VersionNotSupported(_) => 3,
             PusError::ChecksumFailure(_) => 4,
             PusError::CrcCalculationMissing => 5,
@@ -99,6 +107,16 @@ fn in_range(place: u8, largest: u16, value: u16) -> CheckResult
     CheckResult::Ok
 }
 
+// The refusal of the first check, or what the second answers.
+fn first(a: CheckResult, b: CheckResult) -> CheckResult
+    ensures { λ r. ⌜ checkAnswer r ≡ (checkAnswer a then λ _. checkAnswer b) ⌝ }
+{
+    let CheckResult::Ok = a else {
+        return a;
+    };
+    b
+}
+
 // ---- the numbers that have a width of their own
 
 // An application process ID, 11 bits.
@@ -127,10 +145,10 @@ impl Apid {
     {
         let apid = Apid(value);
         let c = apid.check();
-        match c {
-            CheckResult::Ok => ApidResult::Ok(apid),
-            CheckResult::Err(e) => ApidResult::Err(e),
+        if let CheckResult::Err(e) = c {
+            return ApidResult::Err(e);
         }
+        ApidResult::Ok(apid)
     }
 
     pub fn value(self) -> u16
@@ -143,7 +161,7 @@ impl Apid {
     pub fn check(self) -> CheckResult
         ensures { λ r. ⌜ checkAnswer r ≡ apidCheck self ⌝ }
     {
-        in_range(2, 2047, self.0)
+        in_range(2, MAX_APID.0, self.0)
     }
 }
 
@@ -153,10 +171,10 @@ impl SeqCount {
     {
         let count = SeqCount(value);
         let c = count.check();
-        match c {
-            CheckResult::Ok => SeqCountResult::Ok(count),
-            CheckResult::Err(e) => SeqCountResult::Err(e),
+        if let CheckResult::Err(e) = c {
+            return SeqCountResult::Err(e);
         }
+        SeqCountResult::Ok(count)
     }
 
     pub fn value(self) -> u16
@@ -169,7 +187,7 @@ impl SeqCount {
     pub fn check(self) -> CheckResult
         ensures { λ r. ⌜ checkAnswer r ≡ countCheck self ⌝ }
     {
-        in_range(3, 16383, self.0)
+        in_range(3, MAX_SEQ_COUNT.0, self.0)
     }
 }
 
@@ -293,17 +311,15 @@ impl PacketId {
         ensures { λ r. ⌜ idKept r ≡ setIf (apidCheck apid) self (idWithApid self apid) ⌝ }
     {
         let result = apid.check();
-        match result {
-            CheckResult::Ok => {
-                let mut packet_id = self;
-                packet_id.apid = apid;
-                PacketIdSet { packet_id, result }
-            }
-            CheckResult::Err(_) => PacketIdSet {
+        let CheckResult::Ok = result else {
+            return PacketIdSet {
                 packet_id: self,
                 result,
-            },
-        }
+            };
+        };
+        let mut packet_id = self;
+        packet_id.apid = apid;
+        PacketIdSet { packet_id, result }
     }
 
     pub fn apid(self) -> Apid
@@ -393,10 +409,14 @@ pub struct SpHeaderSet {
     pub result: CheckResult,
 }
 
-fn octet(x: u8) -> u16
-    ensures { λ r. ⌜ r ≡ x ⌝ }
+// The octet at `at`, or 0 past the end.
+fn octet_at(s: &[u8], at: usize) -> u8
+    ensures { λ r. ⌜ r ≡ getD (now (s .entry)) at 0 ⌝ }
 {
-    x as u16
+    if s.len() <= at {
+        return 0;
+    }
+    s[at]
 }
 
 // The sixteen bits in the octets at `at` and after it; an octet past the end counts as 0.
@@ -406,10 +426,20 @@ pub fn word_at(s: &[u8], at: usize) -> u16
     if s.len() <= at {
         return 0;
     }
-    if s.len() - at < 2 {
-        return octet(s[at]) * 256;
-    }
-    octet(s[at]) * 256 + octet(s[at + 1])
+    octet_at(s, at) as u16 * 256 + octet_at(s, at + 1) as u16
+}
+
+// Writes three words, the higher octet of each first.
+fn put_words(w0: u16, w1: u16, w2: u16, buf: &mut [u8])
+    requires { ⌜ 6 ≤ length (now buf) ⌝ }
+    ensures { λ _. ⌜ now (buf .exit) ≡ (be16 w0 ++ be16 w1 ++ be16 w2) ++ drop 6 (now (buf .entry)) ⌝ }
+{
+    buf[0] = (w0 / 256) as u8;
+    buf[1] = (w0 % 256) as u8;
+    buf[2] = (w1 / 256) as u8;
+    buf[3] = (w1 % 256) as u8;
+    buf[4] = (w2 / 256) as u8;
+    buf[5] = (w2 % 256) as u8;
 }
 
 impl SpacePacketHeader {
@@ -515,15 +545,15 @@ impl SpacePacketHeader {
         ensures { λ r. ⌜ spHeaderAnswer r ≡ (inRange 1 7 version then λ _. gives (headerOf «packet_id» psc «data_len» version)) ⌝ }
     {
         let c = in_range(1, 7, version as u16);
-        match c {
-            CheckResult::Err(e) => SpHeaderResult::Err(e),
-            CheckResult::Ok => SpHeaderResult::Ok(SpacePacketHeader {
-                version,
-                packet_id,
-                psc,
-                data_len,
-            }),
+        if let CheckResult::Err(e) = c {
+            return SpHeaderResult::Err(e);
         }
+        SpHeaderResult::Ok(SpacePacketHeader {
+            version,
+            packet_id,
+            psc,
+            data_len,
+        })
     }
 
     // ---- setters; the first two answer 7 where what is handed in is over its width
@@ -545,15 +575,15 @@ impl SpacePacketHeader {
         ensures { λ r. ⌜ headerKept r ≡ setIf (countCheck «seq_count») self (withPsc self (pscFrom (self .psc .«seq_flags») «seq_count»)) ⌝ }
     {
         let result = seq_count.check();
-        match result {
-            CheckResult::Err(_) => SpHeaderSet {
+        let CheckResult::Ok = result else {
+            return SpHeaderSet {
                 header: self,
                 result,
-            },
-            CheckResult::Ok => SpHeaderSet {
-                header: self.with_psc(PacketSequenceControl::new(self.sequence_flags(), seq_count)),
-                result,
-            },
+            };
+        };
+        SpHeaderSet {
+            header: self.with_psc(PacketSequenceControl::new(self.sequence_flags(), seq_count)),
+            result,
         }
     }
 
@@ -717,10 +747,10 @@ impl SpacePacketHeader {
     pub fn from_be_bytes(buf: &[u8]) -> SpHeaderResult
         ensures { λ r. ⌜ spHeaderAnswer r ≡ headerRead (now (buf .entry)) ⌝ }
     {
-        if buf.len() < CCSDS_HEADER_LEN {
+        if buf.len() < SpacePacketHeader::LENGTH {
             return SpHeaderResult::Err(PusError::ByteConversion(ByteConversionError::FromSliceTooSmall {
                 found: buf.len(),
-                expected: CCSDS_HEADER_LEN,
+                expected: SpacePacketHeader::LENGTH,
             }));
         }
         let w = word_at(buf, 0);
@@ -746,17 +776,12 @@ impl SpacePacketHeader {
     pub fn check(self) -> CheckResult
         ensures { λ r. ⌜ checkAnswer r ≡ headerCheck self ⌝ }
     {
-        let version = in_range(1, 7, self.version as u16);
-        let CheckResult::Ok = version else {
-            return version;
-        };
         let apid = self.packet_id.apid;
-        let apid_result = apid.check();
-        let CheckResult::Ok = apid_result else {
-            return apid_result;
-        };
         let count = self.psc.seq_count;
-        count.check()
+        first(
+            in_range(1, 7, self.version as u16),
+            first(apid.check(), count.check()),
+        )
     }
 
     // Writes the six octets; 7, then 1.
@@ -764,19 +789,17 @@ impl SpacePacketHeader {
         ensures { λ r. ⌜ Wrote (headerWrite self (length (now (buf .entry)))) (headerOctets self) (now (buf .entry)) r (now (buf .exit)) ⌝ }
     {
         let c = self.check();
-        match c {
-            CheckResult::Err(e) => SizeResult::Err(e),
-            CheckResult::Ok => {
-                if buf.len() < CCSDS_HEADER_LEN {
-                    return SizeResult::Err(PusError::ByteConversion(ByteConversionError::ToSliceTooSmall {
-                        found: buf.len(),
-                        expected: CCSDS_HEADER_LEN,
-                    }));
-                }
-                self.put(buf);
-                SizeResult::Ok(CCSDS_HEADER_LEN)
-            }
+        if let CheckResult::Err(e) = c {
+            return SizeResult::Err(e);
         }
+        if buf.len() < SpacePacketHeader::LENGTH {
+            return SizeResult::Err(PusError::ByteConversion(ByteConversionError::ToSliceTooSmall {
+                found: buf.len(),
+                expected: SpacePacketHeader::LENGTH,
+            }));
+        }
+        self.put(buf);
+        SizeResult::Ok(SpacePacketHeader::LENGTH)
     }
 
     fn put(self, buf: &mut [u8])
@@ -784,13 +807,6 @@ impl SpacePacketHeader {
         ensures { λ _. ⌜ now (buf .exit) ≡ headerOctets self ++ drop 6 (now (buf .entry)) ⌝ }
     {
         let w0 = self.version as u16 * 8192 + self.packet_id_raw();
-        let w1 = self.psc_raw();
-        let w2 = self.data_len;
-        buf[0] = (w0 / 256) as u8;
-        buf[1] = (w0 % 256) as u8;
-        buf[2] = (w1 / 256) as u8;
-        buf[3] = (w1 % 256) as u8;
-        buf[4] = (w2 / 256) as u8;
-        buf[5] = (w2 % 256) as u8;
+        put_words(w0, self.psc_raw(), self.data_len, buf);
     }
 }

@@ -1,15 +1,17 @@
 -- What the checks ask: a check passes where this holds, and only there.
-use Prim.Native.Nat.{_≤_}
+use Prim.Native.Nat.{ℕ, _≤_}
 use mathlib.Core.Path.{_≡_, refl, sym, ap, _∙_}
 use mathlib.Core.Logic.{_↔_}
 use borrow.Author.Tests.{eqb-true, not-false, le-ltb, ltb-false}
-use Rattle.space_packet.specs.Answer.{gives, refuseIf}
+use Rattle.space_packet.specs.Answer.{Answer, Passed, gives, refuses, refuseIf, _then_}
 use Rattle.space_packet.proofs.Answers.{gives-inj, refuse-no, refuse-gives}
 use Rattle.ecss.specs.Version.{versionNumber, versionOf}
+use Rattle.ecss.specs.Write.{inBuffer}
 use Rattle.ecss.specs.declared.PusVersion.{PusVersion}
 use Rattle.ecss.specs.declared.PusVersion.the-variants.{EsaPus, PusA, PusC}
-use Rattle.tc_header.specs.Header.{ackCheck, versionCheck}
+use Rattle.tc_header.specs.Header.{ackCheck, versionCheck, secWrite}
 use Rattle.tc_header.specs.declared.AckFlags.{AckFlags}
+use Rattle.tc_header.specs.declared.PusTcSecondaryHeader.{PusTcSecondaryHeader}
 
 pub ack-passes : (a : AckFlags) → (ackCheck a ≡ gives tt) ↔ (a .0 ≤ 15)
 ack-passes a =
@@ -29,3 +31,14 @@ pub version-passes : (v : PusVersion) → (versionCheck v ≡ gives tt) ↔ (v �
 unfolding refuseIf
 version-passes v =
     (λ p. version-inj v PusC (eqb-true _ _ (not-false _ (refuse-gives _ _ _ _ p .0))), ap versionCheck)
+
+three-then : (a c : Passed) (b k : Answer ℕ) → ((a then λ _. b then λ _. c) then λ _. k) ≡ (a then λ _. b then λ _. c then λ _. k)
+unfolding _then_
+three-then (refuses e) c b k = refl
+three-then (gives u) c (refuses e) k = refl
+three-then (gives u) c (gives n) k = refl
+
+-- a write is its three checks, and then its size
+pub write-checked : (x : PusTcSecondaryHeader) (n : ℕ) → secWrite x n ≡ ((ackCheck (x .«ack_flags») then λ _. inBuffer n 5 then λ _. versionCheck (x .version)) then λ _. gives 5)
+unfolding secWrite
+write-checked x n = sym (three-then (ackCheck (x .«ack_flags»)) (versionCheck (x .version)) (inBuffer n 5) (gives 5))

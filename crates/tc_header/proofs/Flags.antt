@@ -1,6 +1,6 @@
--- A flag that is set reads as it was set, the others as they did, and a nibble stays one: over the bit k of the flag, whose
--- weight is 2 ^ k. Acceptance is bit 3, start 2, progress 1, completion 0.
-use Prim.Native.Nat.{ℕ, zero, suc, _+_, _*_, _/_, _%_, _^_, _≤_, _<_}
+-- A flag that is set reads as it was set, and the others as they did: over the bit k of the flag, whose weight is 2 ^ k.
+-- Acceptance is bit 3, start 2, progress 1, completion 0.
+use Prim.Native.Nat.{ℕ, zero, suc, _+_, _*_, _/_, _%_, _^_, _≤_}
 use mathlib.Core.Path.{_≡_, sym, ap, _∙_}
 use mathlib.Core.Bool.{Bool, true, false}
 use native.Mathlib.Omega.{arith}
@@ -47,14 +47,3 @@ set-bit (suc k) (suc j) a v =
     let b = ackOf (a .0 / 2) in
     let e : withFlag (2 ^ suc k) a v .0 / 2 ≡ withFlag (2 ^ k) b v .0 = omega (arith, set-half k a v) in
     rw (half-bit j (withFlag (2 ^ suc k) a v .0), half-bit j (a .0), e, eqb·suc-suc k j) (set-bit k j b v)
-
--- flags of h bits stay flags of h bits
-set-fits : (k h : ℕ) (a : AckFlags) (v : Bool) → k < h → a .0 < 2 ^ h → withFlag (2 ^ k) a v .0 < 2 ^ h
-set-fits k zero a v p q = absurd (omega arith)
-set-fits zero (suc h) a v p q = omega (arith, pow-succ' 2 h, flag-le v)
-set-fits (suc k) (suc h) a v p q =
-    let half : a .0 / 2 < 2 ^ h = omega (arith, pow-succ' 2 h) in
-    omega (arith, pow-succ' 2 h, set-half k a v, set-fits k h (ackOf (a .0 / 2)) v (omega arith) half)
-
-pub set-nibble : (k : ℕ) (a : AckFlags) (v : Bool) → k < 4 → a .0 ≤ 15 → withFlag (2 ^ k) a v .0 ≤ 15
-set-nibble k a v p q = omega (arith, set-fits k 4 a v p (omega arith))

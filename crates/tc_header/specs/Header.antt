@@ -1,4 +1,4 @@
--- The secondary header of a PUS-C telecommand, ECSS-E-ST-70-41C, 7.4.4.1.
+-- The secondary header of a PUS-C telecommand. ECSS-E-ST-70-41C, 7.4.4, telecommand packet secondary header.
 use Prim.Native.Nat.{ℕ, _+_, _*_, _/_, _%_, _≤_}
 use mathlib.Core.Path.{_≡_}
 use mathlib.Core.Bool.{Bool, not, _&&_}
@@ -21,7 +21,7 @@ use Rattle.tc_header.specs.declared.PusTcSecondaryHeader.{PusTcSecondary
 use Rattle.tc_header.specs.declared.SecHeaderResult.{SecHeaderResult}
 use Rattle.tc_header.specs.declared.SecHeaderResult.the-variants as S
 
--- ---- the acknowledgement flags: acceptance 8, start 4, progress 2, completion 1
+-- ---- the acknowledgement flags: acceptance 8, start 4, progress 2, completion 1, in the order of the Rust crate
 
 -- four bits; its place in a refusal is 4
 abbrev pub ackCheck : AckFlags → Passed
@@ -41,7 +41,8 @@ withFlag weight a v =
 
 -- ---- the layout
 
--- TC packet PUS version number 4 bits, acknowledgement flags 4, service type 8, message subtype 8, source ID 16
+-- TC packet PUS version number 4 bits, acknowledgement flags 4, service type 8, message subtype 8, source ID 16; the
+-- standard's row may end in spare bits, and there are none here
 unfoldable pub secRow : PusTcSecondaryHeader → List Bool
 secRow x =
     bits 4 (versionNumber (x .version)) ++ bits 4 (x .«ack_flags» .0) ++ bits 8 (x .«message_type_id» .«type_id»)

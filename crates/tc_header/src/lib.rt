@@ -6,6 +6,7 @@ ghost use lib.ListN.{length, drop};
 ghost use Rattle.space_packet.specs.Bits.{lowest};
 ghost use Rattle.space_packet.specs.Answer.{gives, _then_, inRange, checkAnswer};
 ghost use Rattle.space_packet.specs.Wrote.{Wrote};
+ghost use Rattle.ecss.specs.Write.{inBuffer};
 ghost use Rattle.ecss.specs.declared.PusVersion.the-variants.{PusC};
 ghost use Rattle.tc_header.specs.Header.{ackCheck, ackOf, ackAnswer, withFlag, secOctets, secFrom, versionCheck, secWrite, secRead, secAnswer, sameSec};
 use ecss::MessageTypeId;
@@ -48,10 +49,10 @@ impl AckFlags {
     {
         let flags = AckFlags(value);
         let c = flags.check();
-        match c {
-            CheckResult::Ok => AckFlagsResult::Ok(flags),
-            CheckResult::Err(e) => AckFlagsResult::Err(e),
+        if let CheckResult::Err(e) = c {
+            return AckFlagsResult::Err(e);
         }
+        AckFlagsResult::Ok(flags)
     }
 
     pub fn raw_value(self) -> u8
@@ -152,7 +153,7 @@ impl PusTcSecondaryHeader {
     pub fn new_simple(message_type_id: MessageTypeId) -> PusTcSecondaryHeader
         ensures { λ r. ⌜ r ≡ secFrom «message_type_id» (ackOf 15) 0 PusC ⌝ }
     {
-        PusTcSecondaryHeader::new(message_type_id, ACK_ALL, 0)
+        PusTcSecondaryHeader::new(message_type_id, AckFlags::ALL, 0)
     }
 
     pub fn new(
@@ -236,10 +237,10 @@ impl PusTcSecondaryHeader {
     pub fn from_be_bytes(s: &[u8]) -> SecHeaderResult
         ensures { λ r. ⌜ secAnswer r ≡ secRead (now (s .entry)) ⌝ }
     {
-        if s.len() < PUC_TC_SECONDARY_HEADER_LEN {
+        if s.len() < PusTcSecondaryHeader::HEADER_LEN {
             return SecHeaderResult::Err(PusError::ByteConversion(ByteConversionError::FromSliceTooSmall {
                 found: s.len(),
-                expected: PUC_TC_SECONDARY_HEADER_LEN,
+                expected: PusTcSecondaryHeader::HEADER_LEN,
             }));
         }
         SecHeaderResult::Ok(PusTcSecondaryHeader::new(
@@ -249,42 +250,44 @@ impl PusTcSecondaryHeader {
         ))
     }
 
+    // What a write into that many octets asks: 7, 1, 3.
+    fn check(self, room: usize) -> CheckResult
+        ensures { λ r. ⌜ checkAnswer r ≡ (ackCheck (self .«ack_flags») then λ _. inBuffer room 5 then λ _. versionCheck (self .version)) ⌝ }
+    {
+        let ack = self.ack_flags;
+        let c = ack.check();
+        let CheckResult::Ok = c else {
+            return c;
+        };
+        if room < PusTcSecondaryHeader::HEADER_LEN {
+            return CheckResult::Err(PusError::ByteConversion(ByteConversionError::ToSliceTooSmall {
+                found: room,
+                expected: PusTcSecondaryHeader::HEADER_LEN,
+            }));
+        }
+        self.check_version()
+    }
+
     // Writes the five octets; 7, 1, 3.
     pub fn write_to_slice(self, buf: &mut [u8]) -> SizeResult
         ensures { λ r. ⌜ Wrote (secWrite self (length (now (buf .entry)))) (secOctets self) (now (buf .entry)) r (now (buf .exit)) ⌝ }
     {
-        let ack = self.ack_flags;
-        let c = ack.check();
-        match c {
-            CheckResult::Err(e) => SizeResult::Err(e),
-            CheckResult::Ok => {
-                if buf.len() < PUC_TC_SECONDARY_HEADER_LEN {
-                    return SizeResult::Err(PusError::ByteConversion(ByteConversionError::ToSliceTooSmall {
-                        found: buf.len(),
-                        expected: PUC_TC_SECONDARY_HEADER_LEN,
-                    }));
-                }
-                let v = self.check_version();
-                match v {
-                    CheckResult::Err(e) => SizeResult::Err(e),
-                    CheckResult::Ok => {
-                        self.put(buf);
-                        SizeResult::Ok(PUC_TC_SECONDARY_HEADER_LEN)
-                    }
-                }
-            }
+        let c = self.check(buf.len());
+        if let CheckResult::Err(e) = c {
+            return SizeResult::Err(e);
         }
+        self.put(buf);
+        SizeResult::Ok(PusTcSecondaryHeader::HEADER_LEN)
     }
 
     fn put(self, buf: &mut [u8])
         requires { ⌜ (self .«ack_flags» .0 ≤ 15) × (self .version ≡ PusC) × (5 ≤ length (now buf)) ⌝ }
         ensures { λ _. ⌜ now (buf .exit) ≡ secOctets self ++ drop 5 (now (buf .entry)) ⌝ }
     {
-        let message = self.message_type_id;
         let source = self.source_id;
         buf[0] = 32 + self.ack_flags.0;
-        buf[1] = message.type_id;
-        buf[2] = message.subtype_id;
+        buf[1] = self.message_type_id.type_id;
+        buf[2] = self.message_type_id.subtype_id;
         buf[3] = (source / 256) as u8;
         buf[4] = (source % 256) as u8;
     }

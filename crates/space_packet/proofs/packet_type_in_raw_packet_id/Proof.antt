@@ -11,7 +11,7 @@ new-with-raw-value-requires c κs = search needs
 
 returns : tie.Need-returns
 unfolding idOf
-returns c = cc
+returns c = c .new-with-raw-value .ensures
 
 pub packet-type-in-raw-packet-id-spec : {M : Type 1} → statement M
 packet-type-in-raw-packet-id-spec =

@@ -1,4 +1,8 @@
 use Rattle.space_packet.specs.Fields.{idOf}
+use Prim.Native.Nat.{_/_, _%_}
+use mathlib.Core.Path.{ap, _∙_}
+use Rattle.space_packet.specs.Bits.{lowest}
+use Rattle.space_packet.specs.Header.{idFrom}
 use borrow.Author.Needs.{needs}
 use Rattle.space_packet.proofs.PacketId.from.Statement.{statement}
 use Rattle.space_packet.proofs.PacketId.from.Tie as tie
@@ -11,7 +15,7 @@ new-requires c κs = search needs
 
 returns : tie.Need-returns
 unfolding idOf
-returns c = cc
+returns c = let w = c .before .before .args .raw in c .new .ensures ∙ ap (λ t. idFrom t (lowest (w / 2048)) (record { 0 = w % 2048 })) (c .before .packet-type-in-raw-packet-id .ensures)
 
 pub from-spec : {M : Type 1} → statement M
 from-spec = tie.close (tie.spec packet-type-in-raw-packet-id-requires new-requires returns)

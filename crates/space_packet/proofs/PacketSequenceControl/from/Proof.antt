@@ -1,4 +1,7 @@
 use Rattle.space_packet.specs.Fields.{pscOf}
+use Prim.Native.Nat.{_%_}
+use mathlib.Core.Path.{ap, _∙_}
+use Rattle.space_packet.specs.Header.{pscFrom}
 use borrow.Author.Needs.{needs}
 use Rattle.space_packet.proofs.PacketSequenceControl.from.Statement.{statement}
 use Rattle.space_packet.proofs.PacketSequenceControl.from.Tie as tie
@@ -14,7 +17,7 @@ new-requires c κs = search needs
 
 returns : tie.Need-returns
 unfolding pscOf
-returns c = cc
+returns c = c .new .ensures ∙ ap (λ f. pscFrom f (record { 0 = c .before .before .args .raw % 16384 })) (c .before .new-with-raw-value .ensures)
 
 pub from-spec : {M : Type 1} → statement M
 from-spec =

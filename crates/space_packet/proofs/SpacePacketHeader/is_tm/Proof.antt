@@ -1,3 +1,7 @@
+use Prim.Native.Nat.{ℕ}
+use mathlib.Core.Path.{ap, _∙_}
+use lib.Dec.{eqb}
+use Rattle.space_packet.specs.Fields.{typeNumber}
 use borrow.Author.Needs.{needs}
 use Rattle.space_packet.proofs.SpacePacketHeader.is_tm.Statement.{statement}
 use Rattle.space_packet.proofs.SpacePacketHeader.is_tm.Tie as tie
@@ -9,7 +13,7 @@ raw-value-requires : tie.Need-raw-value-requires
 raw-value-requires c κs = search needs
 
 returns : tie.Need-returns
-returns c = cc
+returns c = ap (λ (n : ℕ). eqb n 0) (c .raw-value .ensures ∙ ap typeNumber (c .before .packet-type .ensures))
 
 pub is-tm-spec : {M : Type 1} → statement M
 is-tm-spec = tie.close (tie.spec packet-type-requires raw-value-requires returns)

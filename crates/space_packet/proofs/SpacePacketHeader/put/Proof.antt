@@ -1,8 +1,11 @@
+use Prim.Native.Nat.{_+_, _*_}
 use native.Mathlib.Omega.{arith}
-use lib.Seq.{sets-eq}
-use lib.ListN.{length-set}
-use Rattle.space_packet.proofs.Numbers.{id-raw-lt}
+use mathlib.Core.Path.{_∙_}
+use mathlib.Core.List.{_++_}
+use lib.ListN.{drop}
+use Rattle.space_packet.specs.Bits.{be16}
 use Rattle.space_packet.specs.Header.{headerOctets}
+use Rattle.space_packet.proofs.Numbers.{id-raw-lt}
 use borrow.Author.Needs.{needs}
 use Rattle.space_packet.proofs.SpacePacketHeader.put.Statement.{statement}
 use Rattle.space_packet.proofs.SpacePacketHeader.put.Tie as tie
@@ -22,48 +25,15 @@ add-w0 c = omega (arith, id-raw-lt (c .before .before .before .args .self .«pac
 psc-raw-requires : tie.Need-psc-raw-requires
 psc-raw-requires c κs = search needs
 
-cast-buf : tie.Need-cast-buf
-cast-buf c = omega (arith, id-raw-lt (c .before .before .before .before .args .self .«packet_id»))
-
-slice-write-buf : tie.Need-slice-write-buf
-slice-write-buf c = search needs
-
-cast-buf-2 : tie.Need-cast-buf-2
-cast-buf-2 c = search needs
-
-slice-write-buf-2 : tie.Need-slice-write-buf-2
-slice-write-buf-2 c = simp length-set (omega arith)
-
-cast-buf-3 : tie.Need-cast-buf-3
-cast-buf-3 c = search needs
-
-slice-write-buf-3 : tie.Need-slice-write-buf-3
-slice-write-buf-3 c = simp length-set (omega arith)
-
-cast-buf-4 : tie.Need-cast-buf-4
-cast-buf-4 c = search needs
-
-slice-write-buf-4 : tie.Need-slice-write-buf-4
-slice-write-buf-4 c = simp length-set (omega arith)
-
-cast-buf-5 : tie.Need-cast-buf-5
-cast-buf-5 c = search needs
-
-slice-write-buf-5 : tie.Need-slice-write-buf-5
-slice-write-buf-5 c = simp length-set (omega arith)
-
-cast-buf-6 : tie.Need-cast-buf-6
-cast-buf-6 c = search needs
-
-slice-write-buf-6 : tie.Need-slice-write-buf-6
-slice-write-buf-6 c = search needs
+put-words-requires : tie.Need-put-words-requires
+put-words-requires c κs = search needs
 
 same-length : tie.Need-same-length
 same-length c = search needs
 
 returns : tie.Need-returns
 unfolding headerOctets
-returns c = rw (c .before .packet-id-raw .ensures, c .psc-raw .ensures, sets-eq (headerOctets (c .before .before .before .before .args .self)) (c .before .before .before .before .args .buf .now) 0 (omega arith))
+returns c = let a = c .before .before .before .before .before .before .before .before .args in let h = a .self in c .before .before .put-words .ensures ∙ (λ i. (be16 (h .version * 8192 + c .before .before .before .before .before .packet-id-raw .ensures i) ++ be16 (c .before .before .before .before .psc-raw .ensures i) ++ be16 (h .«data_len»)) ++ drop 6 (a .buf .now))
 
 pub put-spec : {M : Type 1} → statement M
 put-spec =
@@ -74,17 +44,6 @@ put-spec =
     packet-id-raw-requires
     add-w0
     psc-raw-requires
-    cast-buf
-    slice-write-buf
-    cast-buf-2
-    slice-write-buf-2
-    cast-buf-3
-    slice-write-buf-3
-    cast-buf-4
-    slice-write-buf-4
-    cast-buf-5
-    slice-write-buf-5
-    cast-buf-6
-    slice-write-buf-6
+    put-words-requires
     same-length
     returns)

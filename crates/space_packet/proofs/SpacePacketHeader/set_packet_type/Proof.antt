@@ -1,3 +1,5 @@
+use mathlib.Core.Path.{ap, _∙_}
+use Rattle.space_packet.specs.Header.{idFrom, withId}
 use borrow.Author.Needs.{needs}
 use Rattle.space_packet.proofs.SpacePacketHeader.set_packet_type.Statement.{statement}
 use Rattle.space_packet.proofs.SpacePacketHeader.set_packet_type.Tie as tie
@@ -15,7 +17,7 @@ with-packet-id-requires : tie.Need-with-packet-id-requires
 with-packet-id-requires c κs = search needs
 
 returns : tie.Need-returns
-returns c = cc
+returns c = let a = c .before .before .before .before .args in c .with-packet-id .ensures ∙ ap (withId (a .self)) (c .before .new .ensures ∙ (λ i. idFrom (a .packet-type) (c .before .before .before .sec-header-flag .ensures i) (c .before .before .apid .ensures i)))
 
 pub set-packet-type-spec : {M : Type 1} → statement M
 set-packet-type-spec =

@@ -1,6 +1,7 @@
-use Rattle.space_packet.proofs.Answers.{kept-new, kept-old}
 use mathlib.Core.Path.{sym, ap, _∙_}
 use Rattle.space_packet.specs.Answer.{checkAnswer}
+use Rattle.space_packet.specs.Header.{pscFrom, withPsc}
+use Rattle.space_packet.proofs.Answers.{kept-new, kept-old}
 use borrow.Author.Needs.{needs}
 use Rattle.space_packet.proofs.SpacePacketHeader.set_seq_count.Statement.{statement}
 use Rattle.space_packet.proofs.SpacePacketHeader.set_seq_count.Tie as tie
@@ -14,6 +15,9 @@ enum-told c = search needs
 enum-told-2 : tie.Need-enum-told-2
 enum-told-2 c = search needs
 
+returns : tie.Need-returns
+returns c = let k = c .before .before .check in kept-old _ _ _ _ _ (k .ensures) (sym (k .ensures) ∙ ap checkAnswer (c .enum-told2 .given .1))
+
 sequence-flags-requires : tie.Need-sequence-flags-requires
 sequence-flags-requires c κs = search needs
 
@@ -23,11 +27,8 @@ new-requires c κs = search needs
 with-psc-requires : tie.Need-with-psc-requires
 with-psc-requires c κs = search needs
 
-returns : tie.Need-returns
-returns c = let k = c .before .before .check in kept-old _ _ _ _ _ (k .ensures) (sym (k .ensures) ∙ ap checkAnswer (c .enum-told .given .1))
-
 returns-2 : tie.Need-returns-2
-returns-2 c = let k = c .before .before .before .before .before .check in cc (kept-new _ _ (c .before .before .before .before .before .before .args .self) (c .with-psc .result) (k .ensures) (sym (k .ensures) ∙ ap checkAnswer (c .before .before .before .enum-told2 .given .1)))
+returns-2 c = let k = c .before .before .before .before .before .check in let a = c .before .before .before .before .before .before .args in ap (λ h. record { passed = checkAnswer (k .result); kept = h }) (c .with-psc .ensures ∙ ap (withPsc (a .self)) (c .before .new .ensures ∙ ap (λ f. pscFrom f (a .seq-count)) (c .before .before .sequence-flags .ensures))) ∙ kept-new _ _ _ _ (k .ensures) (sym (k .ensures) ∙ ap checkAnswer (c .before .before .before .enum-told .given .1))
 
 pub set-seq-count-spec : {M : Type 1} → statement M
 set-seq-count-spec =
@@ -36,8 +37,8 @@ set-seq-count-spec =
     check-requires
     enum-told
     enum-told-2
+    returns
     sequence-flags-requires
     new-requires
     with-psc-requires
-    returns
     returns-2)

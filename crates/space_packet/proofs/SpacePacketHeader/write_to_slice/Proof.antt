@@ -1,10 +1,10 @@
-use Rattle.space_packet.proofs.RoundTrip.{check-in-range}
 use native.Mathlib.Omega.{arith}
 use borrow.Author.Tests.{lt-ltb, le-ltb}
 use mathlib.Core.Path.{sym, ap, _∙_}
-use Rattle.space_packet.proofs.Answers.{gives-then, refuses-then, refuse-yes, refuse-no, left-refused, left-written}
 use Rattle.space_packet.specs.Answer.{checkAnswer}
 use Rattle.space_packet.specs.Header.{headerWrite}
+use Rattle.space_packet.proofs.Answers.{gives-then, refuses-then, refuse-yes, refuse-no, left-refused, left-written}
+use Rattle.space_packet.proofs.RoundTrip.{check-in-range}
 use borrow.Author.Needs.{needs}
 use Rattle.space_packet.proofs.SpacePacketHeader.write_to_slice.Statement.{statement}
 use Rattle.space_packet.proofs.SpacePacketHeader.write_to_slice.Tie as tie
@@ -15,19 +15,19 @@ check-requires c κs = search needs
 enum-known-c : tie.Need-enum-known-c
 enum-known-c c = search needs
 
+returns : tie.Need-returns
+unfolding headerWrite
+returns c = let e = sym (c .before .before .before .check .ensures) ∙ ap checkAnswer (c .before .c .given .1) in let w = refuses-then _ _ _ e in record { answered = sym w; left = sym (left-refused _ _ _ _ w) }
+
 enum-told : tie.Need-enum-told
 enum-told c = search needs
 
-returns : tie.Need-returns
+returns-2 : tie.Need-returns-2
 unfolding headerWrite
-returns c = let e = sym (c .before .before .before .check .ensures) ∙ ap checkAnswer (c .before .enum-told .given .1) in let w = gives-then _ _ _ e ∙ refuse-yes _ _ _ (lt-ltb _ _ (c .if1 .taken)) in record { answered = sym w; left = sym (left-refused _ _ _ _ w) }
+returns-2 c = let e = sym (c .before .before .before .check .ensures) ∙ ap checkAnswer (c .before .enum-told .given .1) in let w = gives-then _ _ _ e ∙ refuse-yes _ _ _ (lt-ltb _ _ (c .if1 .taken)) in record { answered = sym w; left = sym (left-refused _ _ _ _ w) }
 
 put-requires : tie.Need-put-requires
 put-requires c κs = let e = sym (c .before .before .before .before .check .ensures) ∙ ap checkAnswer (c .before .before .enum-told .given .1) in (check-in-range _ e, omega arith)
-
-returns-2 : tie.Need-returns-2
-unfolding headerWrite
-returns-2 c = let e = sym (c .before .before .before .check .ensures) ∙ ap checkAnswer (c .before .c .given .1) in let w = refuses-then _ _ _ e in record { answered = sym w; left = sym (left-refused _ _ _ _ w) }
 
 same-length : tie.Need-same-length
 same-length c = search needs
@@ -42,9 +42,9 @@ write-to-slice-spec =
     (tie.spec
     check-requires
     enum-known-c
-    enum-told
     returns
-    put-requires
+    enum-told
     returns-2
+    put-requires
     same-length
     returns-3)

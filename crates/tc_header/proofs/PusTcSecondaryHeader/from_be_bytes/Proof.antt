@@ -1,8 +1,11 @@
 use borrow.Author.Tests.{lt-ltb, le-ltb}
 use Rattle.space_packet.proofs.Answers.{refuse-yes, refuse-no}
-use mathlib.Core.Path.{sym}
+use Prim.Native.Nat.{_%_}
+use mathlib.Core.Path.{sym, _∙_}
+use lib.ListN.{getD}
+use Rattle.ecss.specs.declared.PusVersion.the-variants.{PusC}
 use Rattle.space_packet.specs.Answer.{gives}
-use Rattle.tc_header.specs.Header.{secRead, secOf}
+use Rattle.tc_header.specs.Header.{ackOf, secFrom, secRead, secOf}
 use borrow.Author.Needs.{needs}
 use Rattle.tc_header.proofs.PusTcSecondaryHeader.from_be_bytes.Statement.{statement}
 use Rattle.tc_header.proofs.PusTcSecondaryHeader.from_be_bytes.Tie as tie
@@ -31,7 +34,7 @@ new-requires-2 c κs = search needs
 
 returns-2 : tie.Need-returns-2
 unfolding secRead secOf
-returns-2 c = cc (refuse-no _ _ (gives (secOf _)) (le-ltb _ _ (c .before .before .before .before .before .before .if1 .left)))
+returns-2 c = let m = c .before .before .before .new .ensures in let w = c .before .word-at .ensures in let a = ackOf (getD (c .before .before .before .before .before .before .before .before .args .s .now) 0 0 % 16) in let x = c .new2 .ensures ∙ (λ i. secFrom (m i) a (w i) PusC) in (λ i. gives (x i)) ∙ sym (refuse-no _ _ _ (le-ltb _ _ (c .before .before .before .before .before .before .if1 .left)))
 
 pub from-be-bytes-spec : {M : Type 1} → statement M
 from-be-bytes-spec =
