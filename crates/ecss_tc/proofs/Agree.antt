@@ -1,13 +1,13 @@
 -- The ways to write a packet agree, and a total up to 65,542 is stated.
 use Prim.Native.Nat.{ℕ, _-_, _≤_}
 use mathlib.Core.Path.{_≡_, refl, sym, ap}
-use mathlib.Core.Bool.{Bool, true, false}
-use mathlib.Core.List.{List, [], _∷_}
+use mathlib.Core.Bool.{Bool, false}
+use mathlib.Core.List.{List}
 use native.Mathlib.Omega.{arith}
 use lib.ListN.{length}
-use Rattle.space_packet.specs.Answer.{no, gives, refuses, refuseIf, _then_}
+use Rattle.space_packet.specs.Answer.{gives}
 use Rattle.ecss.specs.Frame.{closed}
-use Rattle.ecss.specs.Write.{totalFor, lengthOf, lengthField}
+use Rattle.ecss.specs.Write.{totalFor, lengthField}
 use Rattle.ecss.proofs.Frames.{total-length, field-is}
 use Rattle.ecss_tc.specs.Creator.{contentFor, octetsFor, writeOf, plainOf}
 use Rattle.ecss_tc.specs.declared.PusTcCreator.{PusTcCreator}
@@ -24,11 +24,3 @@ off-agrees t d m h = (plain-is-write t (length d) m h, ap (λ (b : Bool). closed
 -- totals up to 65,542 are stated
 pub field-stated : (b : Bool) (n : ℕ) → totalFor 11 b n ≤ 65542 → lengthField 11 b n ≡ gives (totalFor 11 b n - 7)
 field-stated b n h = field-is 11 b n (totalFor 11 b n) _ (total-length 11 b n _ refl (omega arith)) h refl
-
--- 65,529 octets of data with a checksum are the last
-pub last-stated : lengthField 11 true 65529 ≡ gives 65535
-last-stated = field-stated true 65529 (omega arith)
-
-pub first-refused : lengthField 11 true 65530 ≡ refuses (no 6 (65530 ∷ []))
-unfolding lengthField lengthOf refuseIf _then_
-first-refused = refl

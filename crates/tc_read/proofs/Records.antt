@@ -14,7 +14,7 @@ use Rattle.space_packet.specs.declared.SpacePacketHeader.{SpacePacketHeader}
 use Rattle.space_packet.proofs.Answers.{gives-inj, refuses-inj, never, refuse-no, then-gives, gives-then}
 use Rattle.ecss.specs.Frame.{trailer, frameOf, checkedOf, rawPart, dataPart}
 use Rattle.ecss.specs.Codec.{secondaryOf}
-use Rattle.ecss.proofs.Frames.{frame-total, total-frame, checked-total}
+use Rattle.ecss.proofs.Frames.{total-frame, checked-total}
 use Rattle.tc_header.specs.Header.{secRead, secOf}
 use Rattle.tc_header.specs.declared.PusTcSecondaryHeader.{PusTcSecondaryHeader}
 use Rattle.tc_read.specs.Read.{recordOf, crcTaken, readOf, checkedRead, appData, rawData}
@@ -85,18 +85,6 @@ data-part s b r p =
 
 pub raw-part : (s : List ℕ) (b : Bool) (r : PusTcRecord) → readOf s b ≡ gives r → rawData s b ≡ take (r .total) s
 raw-part s b r p = ap (λ (a : Answer ℕ). rawPart a s) (read-is s b r p .0)
-
-pub data-length : (s : List ℕ) (b : Bool) (r : PusTcRecord) → readOf s b ≡ gives r → length (appData s b) ≡ r .end - r .start
-data-length s b r p =
-    let q = read-is s b r p in
-    let f = frame-total 11 s b (r .total) (q .0) in
-    let e = bounds s b r (q .1) in
-    ap length (data-part s b r p)
-    ∙ length-take-le (r .end - r .start) (drop (r .start) s) (rw length-drop (omega (arith, e .0, e .1, f .room, f .fits)))
-
-pub raw-length : (s : List ℕ) (b : Bool) (r : PusTcRecord) → readOf s b ≡ gives r → length (rawData s b) ≡ r .total
-raw-length s b r p =
-    let f = frame-total 11 s b (r .total) (read-is s b r p .0) in ap length (raw-part s b r p) ∙ length-take-le (r .total) s (f .fits)
 
 refused : (a : Answer ℕ) (f : ℕ → PusTcRecord) (e : Numbers) → (a then λ n. gives (f n)) ≡ refuses e → a ≡ refuses e
 unfolding _then_
