@@ -1,83 +1,209 @@
 // The report of tcverdict: the packets of a capture as the splitter finds them, each with its strict verdict.
 ghost use mathlib.Core.Path.{_≡_};
+ghost use Prim.Native.Nat.{_≤_};
+ghost use lib.ListN.{length, take};
+ghost use Rattle.io.specs.Counts.{Counts};
+ghost use Rattle.text.specs.Page.{page, laid};
+ghost use Rattle.strict.specs.Verdict.{verdictAnswer};
+ghost use Rattle.strict.specs.Split.{stepAnswer, walk};
+ghost use Rattle.report.specs.Report.{twoText, verdictText, stepText, nextFrom, linesOf, bodyText, reportText, gotOf, Fit, endedOf, Within, printed, room};
 use libc::STDOUT_FILENO;
 use strict::Verdict;
 use strict::split::Cursor;
 use strict::split::Step;
 
-fn say(text: &[u8]) {
-    io::write_all(STDOUT_FILENO, text);
+// ---- the report, laid into a buffer: each call goes on at `at`, and answers the place after what it laid
+
+fn put_two(out: &mut [u8], at: usize, a: usize, b: usize) -> usize
+    ensures { λ r. ⌜ page (now (out .exit)) r ≡ laid (page (now (out .entry)) at) (twoText a b) ⌝ }
+{
+    let n = text::put_number(out, at, a as u64);
+    let n = text::put_text(out, n, b" ");
+    text::put_number(out, n, b as u64)
 }
 
-fn say_number(n: usize) {
-    io::print_decimal(STDOUT_FILENO, n as u64);
-}
-
-fn say_place(at: usize, len: usize) {
-    say_number(at);
-    say(b" ");
-    say_number(len);
-}
-
-fn say_verdict(verdict: Verdict) {
+fn put_verdict(out: &mut [u8], at: usize, verdict: Verdict) -> usize
+    ensures { λ r. ⌜ page (now (out .exit)) r ≡ laid (page (now (out .entry)) at) (verdictText (verdictAnswer verdict)) ⌝ }
+{
     match verdict {
         Verdict::Accepted(record) => {
-            say(b" accept ");
-            say_number(record.service_type_id() as usize);
-            say(b" ");
-            say_number(record.message_subtype_id() as usize);
+            let n = text::put_text(out, at, b" accept ");
+            let service = record.service_type_id();
+            let subtype = record.message_subtype_id();
+            put_two(out, n, service as usize, subtype as usize)
         }
         Verdict::Refused(error) => {
-            say(b" refuse ");
-            say_number(error.number() as usize);
+            let n = text::put_text(out, at, b" refuse ");
+            text::put_number(out, n, error.number() as u64)
         }
     }
-    say(b"\n");
 }
 
-// Prints a step's line, and answers where the next begins: `end` after the last.
-fn show(step: Step, end: usize) -> usize {
+fn put_step(out: &mut [u8], at: usize, step: Step) -> usize
+    ensures { λ r. ⌜ page (now (out .exit)) r ≡ laid (page (now (out .entry)) at) (stepText (stepAnswer step)) ⌝ }
+{
     match step {
         Step::Packet {
-            at,
+            at: from,
             total,
             verdict,
-            next,
+            next: _,
         } => {
-            say_place(at, total);
-            say_verdict(verdict);
-            next.at
+            let n = put_two(out, at, from, total);
+            let n = put_verdict(out, n, verdict);
+            text::put_text(out, n, b"\n")
         }
-        Step::Tail { at, len, next } => {
-            say_place(at, len);
-            say(b" tail\n");
-            next.at
+        Step::Tail {
+            at: from,
+            len,
+            next: _,
+        } => {
+            let n = put_two(out, at, from, len);
+            text::put_text(out, n, b" tail\n")
         }
-        Step::End => end,
+        Step::End => at,
     }
 }
 
-// A packet has seven octets or more, so no capture uses up the turns.
-fn walk(capture: &[u8]) {
-    let mut at = 0usize;
-    let mut turns = 65536u32;
-    while turns > 0 && at < capture.len() {
-        let here = Cursor { at };
-        at = show(here.step(capture), capture.len());
-        turns -= 1;
+// Where the step after this one begins: `last` after the last.
+fn after(step: Step, last: usize) -> usize
+    ensures { λ r. ⌜ r ≡ nextFrom (stepAnswer step) last ⌝ }
+{
+    match step {
+        Step::Packet {
+            at: _,
+            total: _,
+            verdict: _,
+            next,
+        } => next.at,
+        Step::Tail {
+            at: _,
+            len: _,
+            next,
+        } => next.at,
+        Step::End => last,
     }
 }
 
-fn say_end(len: usize) {
-    say(b"end ");
-    say_number(len);
-    say(b"\n");
+// A line for each piece.
+fn put_lines(out: &mut [u8], at: usize, capture: &[u8]) -> usize
+    ensures { λ r. ⌜ page (now (out .exit)) r ≡ laid (page (now (out .entry)) at) (linesOf (walk (now (capture .entry)))) ⌝ }
+{
+    let mut at = at;
+    let mut from: usize = 0;
+    while from < capture.len() {
+        let here = Cursor { at: from };
+        let step = here.step(capture);
+        at = put_step(out, at, step);
+        from = after(step, capture.len());
+    }
+    at
 }
 
-// Whether one more read fails. At the end of an input it gives nothing, and where a read has failed it fails again.
-fn unreadable(fd: i32) -> bool {
-    let mut one = [0u8; 1];
-    libc::read(fd, &mut one) < 0
+fn put_body(out: &mut [u8], at: usize, capture: &[u8]) -> usize
+    ensures { λ r. ⌜ page (now (out .exit)) r ≡ laid (page (now (out .entry)) at) (bodyText (now (capture .entry))) ⌝ }
+{
+    if 65536 < capture.len() {
+        return text::put_text(out, at, b"too long\n");
+    }
+    let n = put_lines(out, at, capture);
+    let n = text::put_text(out, n, b"end ");
+    let n = text::put_number(out, n, capture.len() as u64);
+    text::put_text(out, n, b"\n")
+}
+
+// Puts the report of a capture at the start of out, and answers how many characters it has; what has no room is left out.
+pub fn render(capture: &[u8], out: &mut [u8]) -> usize
+    ensures { λ r. ⌜ page (now (out .exit)) r ≡ laid (page (now (out .entry)) 0) (reportText (now (capture .entry))) ⌝ }
+    ensures { λ r. ⌜ Counts r (now (out .exit)) ⌝ }
+    ensures { λ r. ⌜ (room ≤ length (now (out .entry)) → take r (now (out .exit)) ≡ reportText (now (capture .entry))) ⌝ }
+{
+    let n = text::put_text(out, 0, b"tcverdict 1\n");
+    put_body(out, n, capture)
+}
+
+// ---- the program
+
+// Room for every report.
+const ROOM: usize = 262179;
+
+// What one read came to, by its own answer: it failed, the input has ended, or so many octets came.
+enum Got {
+    Failed,
+    End,
+    More(usize),
+}
+
+// What reading an input to its end came to: how many octets it gave, or that a read failed.
+enum Input {
+    Octets(usize),
+    Failed,
+}
+
+// What a read into `space` came to. A failed read is known by its own answer only: a read after it may find the end.
+fn heard(answer: isize, space: &[u8]) -> Got
+    ensures { λ r. ⌜ r ≡ gotOf answer (length (now (space .entry))) ⌝ }
+{
+    if answer < 0 {
+        return Got::Failed;
+    }
+    let n = io::count(answer, space);
+    if n == 0 {
+        return Got::End;
+    }
+    Got::More(n)
+}
+
+fn read_once(fd: i32, space: &mut [u8]) -> Got
+    ensures { λ r. ⌜ Fit r (length (now (space .entry))) ⌝ }
+{
+    let answer = libc::read(fd, space);
+    heard(answer, space)
+}
+
+// What n octets and the last read came to.
+fn ended(last: Got, n: usize) -> Input
+    ensures { λ r. ⌜ r ≡ endedOf last n ⌝ }
+{
+    match last {
+        Got::Failed => Input::Failed,
+        Got::End => Input::Octets(n),
+        Got::More(_) => Input::Octets(n),
+    }
+}
+
+// Reads until the input ends, buf is full or a read fails.
+fn read_input(fd: i32, buf: &mut [u8]) -> Input
+    ensures { λ r. ⌜ Within r (length (now (buf .entry))) ⌝ }
+{
+    let mut n: usize = 0;
+    while n < buf.len() {
+        let got = read_once(fd, &mut buf[n..]);
+        let Got::More(more) = got else {
+            return ended(got, n);
+        };
+        n += more;
+    }
+    Input::Octets(n)
+}
+
+// Puts what is printed of an input at the start of out, and answers how many characters it has.
+fn answer(input: Input, buf: &[u8], out: &mut [u8]) -> usize
+    requires { ⌜ room ≤ length (now out) ⌝ }
+    ensures { λ r. ⌜ Counts r (now (out .exit)) ⌝ }
+    ensures { λ r. ⌜ take r (now (out .exit)) ≡ printed input (now (buf .entry)) ⌝ }
+{
+    match input {
+        Input::Octets(n) => render(text::part(buf, 0, n), out),
+        Input::Failed => text::put_text(out, 0, b"tcverdict 1\ncannot be read\n"),
+    }
+}
+
+// Writes what is printed of an input.
+fn print(input: Input, buf: &[u8], shown: &[u8])
+    requires { ⌜ now shown ≡ printed input (now buf) ⌝ }
+{
+    io::write_all(STDOUT_FILENO, shown);
 }
 
 // Judges what an input holds, up to 65,536 octets of it, and prints the report.
@@ -85,16 +211,8 @@ pub fn run(fd: i32)
     ensures { λ r. ⌜ r ≡ tt ⌝ }
 {
     let mut buf = [0u8; 65537];
-    let n = io::read_full(fd, &mut buf);
-    say(b"tcverdict 1\n");
-    if 65536 < n {
-        say(b"too long\n");
-        return;
-    }
-    if unreadable(fd) {
-        say(b"cannot be read\n");
-        return;
-    }
-    walk(&buf[..n]);
-    say_end(n);
+    let input = read_input(fd, &mut buf);
+    let mut out = [0u8; ROOM];
+    let n = answer(input, &buf, &mut out);
+    print(input, &buf, &out[..n]);
 }

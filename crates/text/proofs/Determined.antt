@@ -1,14 +1,11 @@
 -- Two results that meet the contract of a public call are equal, and so is what they leave in a buffer: a theorem for each.
-use Prim.Native.Nat.{ℕ, _+_, _-_, _/_, _%_, _^_, _≤_, _<_}
-use native.Mathlib.Nat.{le-antisymm, le-of-suc-le-suc, lt-of-not-le, pow-le-pow-right}
-use native.Mathlib.Omega.{arith}
+use Prim.Native.Nat.{ℕ, _+_, _-_, _/_, _%_}
 use mathlib.Core.Path.{_≡_, sym, ap, _∙_}
 use mathlib.Core.List.{List, [], _∷_}
 use lib.ListN.{take, drop}
-use Rattle.io.specs.Digits.{digits, Fewest}
 use Rattle.text.specs.Pieces.{gap, countOf, pieceOf}
-use Rattle.text.specs.Digits.{hexText, numberOf, wordOf}
-use Rattle.text.specs.Page.{Page, page, placed, laid, LaidDecimal, Octets, read, octetsOf}
+use Rattle.text.specs.Digits.{hexText, decimal, numberOf, wordOf}
+use Rattle.text.specs.Page.{Page, page, placed, laid, Octets, read, octetsOf}
 use Rattle.text.specs.declared.Value.{Value}
 
 -- a contract that states an equation with `a` leaves no choice
@@ -65,22 +62,5 @@ put-hex before at s = lays _
 pub put-word : (before : List ℕ) (at w : ℕ) → Lays (laid (page before at) (hexText (w / 256 ∷ w % 256 ∷ [])))
 put-word before at w = lays _
 
--- where k digits hold a number, the fewest are no more
-not-more : (b n k m : ℕ) → 0 < b → Fewest b 1 n k → Fewest b 1 n m → k < m → ⊥
-not-more b n k m h f g more =
-    let some : 1 ≤ k = f .0 in
-    let held : n < b ^ k = f .1 in
-    let left : b ^ (m - 1) ≤ n = g .2 (omega arith) in
-    let up : b ^ k ≤ b ^ (m - 1) = pow-le-pow-right h (omega arith) in
-    omega arith
-
-at-most : (b n k m : ℕ) → 0 < b → Fewest b 1 n k → Fewest b 1 n m → m ≤ k
-at-most b n k m h f g = le-of-suc-le-suc (lt-of-not-le (not-more b n k m h f g))
-
-one-width : (n k m : ℕ) → Fewest 10 1 n k → Fewest 10 1 n m → k ≡ m
-one-width n k m f g = le-antisymm (at-most 10 n m k (omega arith) g f) (at-most 10 n k m (omega arith) f g)
-
-pub put-number : (n : ℕ) (before : Page) (x y : ℕ) (l m : List ℕ) → LaidDecimal n before (page l x) → LaidDecimal n before (page m y) → (x ≡ y) × (l ≡ m)
-put-number n before x y l m p q =
-    let e : p .width ≡ q .width = one-width n (p .width) (q .width) (p .fewest) (q .fewest) in
-    same-page x y l m (p .laid-down ∙ ap (λ (k : ℕ). laid before (digits 10 k n)) e ∙ sym (q .laid-down))
+pub put-number : (before : List ℕ) (at n : ℕ) → Lays (laid (page before at) (decimal n))
+put-number before at n = lays _

@@ -1,6 +1,6 @@
 -- Numbers and octets as text.
-use Prim.Native.Nat.{ℕ, _+_, _*_, _-_, _/_, _%_}
-use mathlib.Core.List.{List, [], _∷_}
+use Prim.Native.Nat.{ℕ, zero, suc, _+_, _*_, _-_, _/_, _%_}
+use mathlib.Core.List.{List, [], _∷_, _++_}
 use lib.Dec.{eqb, ltb}
 use lib.ListN.{length, drop}
 use Rattle.text.specs.Pieces.{pick}
@@ -35,6 +35,15 @@ pairOf (x ∷ []) = 256
 pairOf (x ∷ y ∷ l) = pairValue x y
 
 -- ---- decimals
+
+-- a number of at most k digits, with no leading zeros
+unfoldable pub decimalIn : ℕ → ℕ → List ℕ
+decimalIn zero n = []
+decimalIn (suc k) n = pick (ltb n 10) ((48 + n) ∷ []) (decimalIn k (n / 10) ++ ((48 + n % 10) ∷ []))
+
+-- a number below 2^64, which has at most 20
+unfoldable pub decimal : ℕ → List ℕ
+decimal n = decimalIn 20 n
 
 -- a number's digits and one more, where it is one and the number stays below 2^64
 unfoldable pub withDigit : ℕ → ℕ → Value

@@ -1,3 +1,4 @@
 pub mod Pieces
 pub mod Digits
 pub mod Page
+pub mod Ascii

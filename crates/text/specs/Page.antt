@@ -1,10 +1,8 @@
 -- A buffer that is filled from a place on.
 use Prim.Native.Nat.{ℕ, _+_}
-use mathlib.Core.Path.{_≡_}
 use mathlib.Core.List.{List, [], _∷_}
 use lib.Dec.{eqb, ltb}
 use lib.ListN.{length, getD, set}
-use Rattle.io.specs.Digits.{digits, Fewest}
 use Rattle.text.specs.Pieces.{pick}
 use Rattle.text.specs.Digits.{pairValue}
 use Rattle.text.specs.declared.Value.{Value}
@@ -25,12 +23,6 @@ placed p b =
 unfoldable pub laid : Page → List ℕ → Page
 laid p [] = p
 laid p (b ∷ l) = laid (placed p b) l
-
--- the fewest decimal digits that hold n are laid down
-pub record LaidDecimal (n : ℕ) (before after : Page) : Type 0 where
-  pub width : ℕ
-  pub fewest : Fewest 10 1 n width
-  pub laid-down : after ≡ laid before (digits 10 width n)
 
 -- ---- octets read into a buffer
 

@@ -5,8 +5,8 @@ ghost use mathlib.Core.List.{[], _∷_, _++_};
 ghost use Prim.Native.Nat.{_+_, _-_, _/_, _%_, _<_};
 ghost use lib.ListN.{length, take, drop};
 ghost use Rattle.text.specs.Pieces.{gap, one, countOf, pieceOf};
-ghost use Rattle.text.specs.Digits.{hexGlyph, hexValue, hexOctet, hexText, pairValue, pairOf, withDigit, numberFrom, numberOf, wordOf};
-ghost use Rattle.text.specs.Page.{page, placed, laid, LaidDecimal, read, decoded, octetsOf};
+ghost use Rattle.text.specs.Digits.{hexGlyph, hexValue, hexOctet, hexText, pairValue, pairOf, withDigit, decimal, numberFrom, numberOf, wordOf};
+ghost use Rattle.text.specs.Page.{page, placed, laid, read, decoded, octetsOf};
 
 // ---- a line and its pieces
 
@@ -304,7 +304,7 @@ pub fn put_word(out: &mut [u8], at: usize, w: u16) -> usize
 
 // A decimal with no leading zeros.
 pub fn put_number(out: &mut [u8], at: usize, n: u64) -> usize
-    ensures { λ r. ⌜ LaidDecimal n (page (now (out .entry)) at) (page (now (out .exit)) r) ⌝ }
+    ensures { λ r. ⌜ page (now (out .exit)) r ≡ laid (page (now (out .entry)) at) (decimal n) ⌝ }
 {
     let mut text = [0u8; 20];
     let k = io::decimal(n, &mut text);

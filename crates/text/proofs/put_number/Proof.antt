@@ -1,6 +1,8 @@
 -- `text::put_number` meets its contract: the digits that io::decimal gives.
 use mathlib.Core.Path.{ap, _∙_}
+use native.Mathlib.Omega.{arith}
 use Rattle.text.specs.Page.{laid}
+use Rattle.text.proofs.Decimals.{digits-decimal}
 use borrow.Author.Needs.{needs}
 use Rattle.text.proofs.put_number.Statement.{statement}
 use Rattle.text.proofs.put_number.Tie as tie
@@ -22,11 +24,9 @@ same-length c = search needs
 
 returns : tie.Need-returns
 returns c =
-    record {
-      width = c .before .before .before .before .before .decimal .result;
-      fewest = c .before .before .before .before .before .decimal .ensures .1 .0;
-      laid-down = c .before .before .put-text .ensures ∙ ap (laid _) (c .before .before .before .before .before .decimal .ensures .1 .1);
-    }
+    let d = c .before .before .before .before .before .decimal in
+    let n = c .before .before .before .before .before .before .before .before .fits .n in
+    c .before .before .put-text .ensures ∙ ap (laid _) (d .ensures .1 .1 ∙ digits-decimal _ _ (omega (arith, n)) (d .ensures .1 .0))
 
 pub put-number-spec : {M : Type 1} → statement M
 put-number-spec =
