@@ -1,4 +1,4 @@
-// A ping command: built in four ways, written, read and judged.
+// A ping command: built in four ways, written, and each time judged as it was written.
 use ecss::CreatorConfig;
 use ecss::MessageTypeId;
 use ecss::PusError;
@@ -14,6 +14,7 @@ use space_packet::SizeResult;
 use space_packet::SpHeader;
 use strict::Verdict;
 use tc_header::PusTcSecondaryHeader;
+use tc_read::PusTcRecord;
 use tc_reserved::PusTcCreatorWithReservedAppData;
 use tc_reserved::ReservedResult;
 
@@ -78,7 +79,48 @@ fn by_builder() -> PusTcCreatorResult {
     counted.builder.build(&none)
 }
 
-// ---- written
+// ---- written and judged
+
+// The octets that were written, and the verdict on them.
+fn say_written(written: SizeResult, octets: &[u8]) {
+    match written {
+        SizeResult::Err(e) => say_refusal(e),
+        SizeResult::Ok(_) => {
+            say_octets(octets);
+            judge(octets);
+        }
+    }
+}
+
+fn judge(octets: &[u8]) {
+    let verdict = strict::judge(octets);
+    match verdict {
+        Verdict::Refused(e) => say_refusal(e),
+        Verdict::Accepted(record) => {
+            say_record(record);
+            say_data(tc_read::app_data(octets, true));
+        }
+    }
+}
+
+fn say_record(record: PusTcRecord) {
+    let apid = record.apid();
+    let count = record.seq_count();
+    say(b"accepted: APID ");
+    say_number(apid.value() as usize);
+    say(b", count ");
+    say_number(count.value() as usize);
+    say(b", service ");
+    say_number(record.service_type_id() as usize);
+    say(b", subtype ");
+    say_number(record.message_subtype_id() as usize);
+}
+
+fn say_data(data: &[u8]) {
+    say(b", octets of data ");
+    say_number(data.len());
+    say(b"\n");
+}
 
 fn write(made: PusTcCreatorResult) {
     let mut buf = [0u8; 13];
@@ -86,8 +128,8 @@ fn write(made: PusTcCreatorResult) {
     match made {
         PusTcCreatorResult::Err(e) => say_refusal(e),
         PusTcCreatorResult::Ok(creator) => {
-            creator.write_to_slice(&none, &mut buf);
-            say_octets(&buf);
+            let written = creator.write_to_slice(&none, &mut buf);
+            say_written(written, &buf);
         }
     }
 }
@@ -98,8 +140,8 @@ fn reserve() {
     match held {
         ReservedResult::Err(e) => say_refusal(e),
         ReservedResult::Ok(reservation) => {
-            reservation.finalize(&mut buf);
-            say_octets(&buf);
+            let written = reservation.finalize(&mut buf);
+            say_written(written, &buf);
         }
     }
 }
@@ -137,23 +179,6 @@ fn say_length(made: PusTcCreatorResult) {
     }
 }
 
-// ---- read and judged
-
-fn judge(octets: &[u8]) {
-    let verdict = strict::judge(octets);
-    match verdict {
-        Verdict::Refused(e) => say_refusal(e),
-        Verdict::Accepted(record) => {
-            let apid = record.apid();
-            say(b"accepted: APID ");
-            say_number(apid.value() as usize);
-            say(b", service ");
-            say_number(record.service_type_id() as usize);
-            say(b"\n");
-        }
-    }
-}
-
 fn main() {
     let none = [0u8; 0];
     write(by_new(&none));
@@ -165,9 +190,9 @@ fn main() {
     let mut thirteen = [255u8; 13];
     write_no_crc(by_new(&none), &mut thirteen);
     say_octets(&thirteen);
+    judge(&thirteen);
     let most = [0u8; 65529];
     say_length(by_new(&most));
     let more = [0u8; 65530];
     say_length(by_new(&more));
-    judge(b"\x19\x23\xC0\x05\x00\x06\x2F\x11\x01\x00\x00\x61\x6D");
 }
