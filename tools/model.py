@@ -16,7 +16,7 @@ MACHINE = 2**64 - 1        # the largest machine size
 LIMIT = 65542              # the largest total that a length field can state
 HEADERS = 11               # primary and secondary header
 WIDTHS = {1: 7, 2: 2047, 3: 16383, 4: 15}         # the largest in range, by the place that refusal 7 reports
-SETTER_PLACES = {'apid': 2, 'scount': 3, 'ack': 4}
+SETTER_PLACES = {'pvn': 1, 'apid': 2, 'scount': 3, 'ack': 4}
 
 
 class Refused(Exception):
@@ -165,7 +165,7 @@ class Creator:
         return len(packet), packet + buffer[len(packet):]
 
     def edit(self, name, *values):
-        """A setter: 7, for what is handed in. The version number has none: it stands until the record is used."""
+        """A setter: 7, for what is handed in only. Any PUS version is taken: it has no width, and writes judge it."""
         if name == 'upd':
             return self.update_length()
         if name in SETTER_PLACES:

@@ -143,7 +143,7 @@ def refusal_orders():
         yield f'create {sp} {sec} 1 1 - - {buffer}'
         yield f'create {sp} {sec} 0 0 - - {buffer}'
         yield f'reserve {sp} {sec} 0 1 - f {buffer}'
-        # The faults that an edit can bring after construction.
+        # The faults that an edit can bring after construction: the first is refused by the edit, the second by the writes.
         edits = ';'.join(e for e in ('pvn=8', 'version=0') if e.split('=')[0] in chosen) or '-'
         yield f'create 0,1,1,1,3,0,0 2,15,17,1,0 1 1 - {edits} {buffer}'
     for data_len in (65529, 65530, 65535, 65536, model.MACHINE - 13, model.MACHINE - 12, model.MACHINE):

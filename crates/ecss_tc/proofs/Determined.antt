@@ -51,15 +51,14 @@ builder-kept-inj x y p =
 
 -- ---- the calls
 
--- A contract that is `r ≡ d` is determined by `plain`: builder, every reading call, eq, set_sp_header, set_sec_header,
--- set_seq_flags, set_source_id; of the builder new, default, and each setter that refuses nothing. The theorem of ecss at
--- start 11 determines len_written.
+-- A contract that is `r ≡ d` is determined by `plain`: builder, every reading call, eq, set_seq_flags, set_source_id; of the
+-- builder new, default, and each setter that refuses nothing. The theorem of ecss at start 11 determines len_written.
 
 -- also new_simple, new_no_app_data and build
 pub new : (h : SpacePacketHeader) (x : PusTcSecondaryHeader) (n : ℕ) (config : CreatorConfig) → Determines creatorAnswer (newOf h x n config)
 new h x n config = from-inj creatorAnswer (by-inverse creatorAnswer (resultOf T.Ok T.Err) creator-back) _
 
--- set_apid, set_seq_count and set_ack_flags
+-- set_sp_header, set_sec_header, set_apid, set_seq_count and set_ack_flags
 pub set : (p : Passed) (old new : PusTcCreator) → Determines creatorKept (setIf p old new)
 set p old new = from-inj creatorKept creator-kept-inj _
 

@@ -3,11 +3,14 @@ use Prim.Native.Nat.{ℕ, _-_}
 use mathlib.Core.Bool.{Bool, true, _&&_}
 use mathlib.Core.List.{List}
 use lib.Dec.{eqb}
+use lib.ListN.{length}
 use Rattle.crc_step.specs.Crc.{crcOf}
 use Rattle.space_packet.specs.Bits.{pick, flagNumber}
 use Rattle.space_packet.specs.Answer.{Answer, Passed, Kept, gives, refuses, _then_, setIf, numbersOf, checkAnswer}
 use Rattle.space_packet.specs.Header.{headerCheck, headerOf, idFrom, withId, sameHeader}
+use Rattle.space_packet.specs.Wrote.{Wrote}
 use Rattle.space_packet.specs.declared.SpacePacketHeader.{SpacePacketHeader}
+use Rattle.space_packet.specs.declared.SizeResult.{SizeResult}
 use Rattle.space_packet.specs.declared.SpHeaderSet.{SpHeaderSet}
 use Rattle.space_packet.specs.declared.PacketType.the-variants.{Tc}
 use Rattle.ecss.specs.Frame.{trailer, closed, sameOctets}
@@ -119,6 +122,14 @@ writeOf t n m =
 -- and without the checksum, for which there still must be room
 abbrev pub plainOf : PusTcCreator → ℕ → ℕ → Answer ℕ
 plainOf t n m = writeOf t n m then λ total. gives (total - trailer (t .«has_checksum»))
+
+-- the packet stands over the first octets of the buffer, and its length is answered; refused, the buffer is as it was
+abbrev pub PacketWrote : PusTcCreator → List ℕ → List ℕ → SizeResult → List ℕ → Type 0
+PacketWrote t d before r after = Wrote (writeOf t (length d) (length before)) (octetsFor t d) before r after
+
+-- and without the checksum, whose places are left as they were
+abbrev pub ContentWrote : PusTcCreator → List ℕ → List ℕ → SizeResult → List ℕ → Type 0
+ContentWrote t d before r after = Wrote (plainOf t (length d) (length before)) (contentFor t d) before r after
 
 -- the headers, the data and the choice of checksum are the same
 unfoldable pub sameCreator : PusTcCreator → List ℕ → PusTcCreator → List ℕ → Bool

@@ -1,22 +1,22 @@
 // PUS-C telecommands written, after ECSS-E-ST-70-41C: the creator and the builder. Their application data travel beside
 // them.
 ghost use mathlib.Core.Path.{_≡_};
-ghost use mathlib.Core.Bool.{true};
+ghost use mathlib.Core.Bool.{true, false};
 ghost use mathlib.Core.List.{[], _++_};
 ghost use Prim.Native.Nat.{_-_, _≤_};
 ghost use lib.Dec.{eqb};
-ghost use lib.ListN.{length, drop};
+ghost use lib.ListN.{length, take, drop};
 ghost use Rattle.space_packet.specs.Bits.{pick};
 ghost use Rattle.space_packet.specs.Answer.{gives, _then_, setIf, checkAnswer, sizeAnswer};
 ghost use Rattle.space_packet.specs.Fields.{apidCheck, countCheck, idWithApid, typeNumber, idRaw, pscRaw};
-ghost use Rattle.space_packet.specs.Header.{totalOf, withId, withPsc, pscFrom, idFrom, headerKept};
+ghost use Rattle.space_packet.specs.Header.{totalOf, withId, withPsc, pscFrom, idFrom, headerCheck, headerKept};
 ghost use Rattle.space_packet.specs.Wrote.{Wrote};
 ghost use Rattle.space_packet.specs.declared.PacketType.the-variants.{Tc};
 ghost use Rattle.ecss.specs.Version.{messageType};
 ghost use Rattle.ecss.specs.Write.{totalFor, lengthOf, lengthField, dataLenAnswer, writeIn};
 ghost use Rattle.ecss.specs.declared.PusVersion.the-variants.{PusC};
 ghost use Rattle.tc_header.specs.Header.{ackCheck, ackOf, secFrom, versionCheck};
-ghost use Rattle.ecss_tc.specs.Creator.{creatorOf, contentFor, octetsFor, withLength, asCommand, creatorCheck, newOf, creatorAnswer, keptIn, creatorKept, withHeader, withSec, updated, ownChecksum, crcAnswer, checksumOf, checksumAnswer, writeOf, plainOf, sameCreator};
+ghost use Rattle.ecss_tc.specs.Creator.{creatorOf, contentFor, withLength, asCommand, creatorCheck, newOf, creatorAnswer, keptIn, creatorKept, withHeader, withSec, updated, ownChecksum, crcAnswer, checksumOf, checksumAnswer, writeOf, PacketWrote, ContentWrote, sameCreator};
 ghost use Rattle.ecss_tc.specs.Builder.{builderOf, defaultBuilder, builderKept, builderWithHeader, builderWithSec};
 use ecss::Crc16;
 use ecss::CreatorConfig;
@@ -38,15 +38,17 @@ use space_packet::SpHeaderSet;
 pub use tc_header::ACK_ALL;
 pub use tc_header::AckFlags;
 pub use tc_header::PUC_TC_SECONDARY_HEADER_LEN;
-pub use tc_header::PUS_TC_MIN_LEN_WITHOUT_APP_DATA;
 pub use tc_header::PusTcSecondaryHeader;
+
+// Least length of a telecommand, with no data and no checksum.
+pub const PUS_TC_MIN_LEN_WITHOUT_APP_DATA: usize = 11;
 
 // ---- the creator
 
 // A telecommand, but for its application data.
 pub struct PusTcCreator {
     sp_header: SpHeader,
-    pub sec_header: PusTcSecondaryHeader,
+    sec_header: PusTcSecondaryHeader,
     has_checksum: bool,
 }
 
@@ -177,6 +179,13 @@ fn put_head(h: SpHeader, x: PusTcSecondaryHeader, buf: &mut [u8])
 {
     h.write_to_slice(buf);
     x.write_to_slice(&mut buf[6..]);
+}
+
+// Writes the data behind them.
+fn put_data(app_data: &[u8], buf: &mut [u8]) -> SizeResult
+    ensures { λ r. ⌜ Wrote (writeIn 11 false (length (now («app_data» .entry))) (length (now (buf .entry)))) (take 11 (now (buf .entry)) ++ now («app_data» .entry)) (now (buf .entry)) r (now (buf .exit)) ⌝ }
+{
+    frame::put_data(5, app_data, buf)
 }
 
 impl PusTcCreator {
@@ -395,30 +404,25 @@ impl PusTcCreator {
         h.sequence_flags()
     }
 
-    // ---- edits, which are written as they stand; an APID, a count and flags over their width are refused with 7
+    // ---- edits, which are written as they stand; what is over its width is refused with 7
 
     // Replaces the primary header.
-    pub fn set_sp_header(self, sp_header: SpHeader) -> PusTcCreator
-        ensures { λ r. ⌜ r ≡ withHeader self «sp_header» ⌝ }
+    pub fn set_sp_header(self, sp_header: SpHeader) -> PusTcCreatorSet
+        ensures { λ r. ⌜ creatorKept r ≡ setIf (headerCheck «sp_header») self (withHeader self «sp_header») ⌝ }
     {
-        let sec_header = self.sec_header;
-        PusTcCreator {
-            sp_header,
-            sec_header,
-            has_checksum: self.has_checksum,
-        }
+        let mut set = self;
+        set.sp_header = sp_header;
+        self.kept_if(sp_header.check(), set)
     }
 
-    // Replaces the secondary header.
-    pub fn set_sec_header(self, sec_header: PusTcSecondaryHeader) -> PusTcCreator
-        ensures { λ r. ⌜ r ≡ withSec self «sec_header» ⌝ }
+    // Replaces the secondary header; a version other than C is taken, and no write takes it.
+    pub fn set_sec_header(self, sec_header: PusTcSecondaryHeader) -> PusTcCreatorSet
+        ensures { λ r. ⌜ creatorKept r ≡ setIf (ackCheck («sec_header» .«ack_flags»)) self (withSec self «sec_header») ⌝ }
     {
-        let sp_header = self.sp_header;
-        PusTcCreator {
-            sp_header,
-            sec_header,
-            has_checksum: self.has_checksum,
-        }
+        let ack = sec_header.ack_flags;
+        let mut set = self;
+        set.sec_header = sec_header;
+        self.kept_if(ack.check(), set)
     }
 
     // The creator that was set, or where the check was refused this one.
@@ -443,10 +447,9 @@ impl PusTcCreator {
     {
         let header = set.header;
         let result = set.result;
-        PusTcCreatorSet {
-            creator: self.set_sp_header(header),
-            result,
-        }
+        let mut creator = self;
+        creator.sp_header = header;
+        PusTcCreatorSet { creator, result }
     }
 
     pub fn set_apid(self, apid: Apid) -> PusTcCreatorSet
@@ -467,7 +470,9 @@ impl PusTcCreator {
         ensures { λ r. ⌜ r ≡ withHeader self (withPsc (self .«sp_header») (pscFrom «seq_flag» (self .«sp_header» .psc .«seq_count»))) ⌝ }
     {
         let h = self.sp_header;
-        self.set_sp_header(h.set_seq_flags(seq_flag))
+        let mut set = self;
+        set.sp_header = h.set_seq_flags(seq_flag);
+        set
     }
 
     pub fn set_ack_flags(self, ack_flags: AckFlags) -> PusTcCreatorSet
@@ -475,7 +480,7 @@ impl PusTcCreator {
     {
         let mut x = self.sec_header;
         x.ack_flags = ack_flags;
-        self.kept_if(ack_flags.check(), self.set_sec_header(x))
+        self.set_sec_header(x)
     }
 
     pub fn set_source_id(self, source_id: u16) -> PusTcCreator
@@ -483,7 +488,9 @@ impl PusTcCreator {
     {
         let mut x = self.sec_header;
         x.source_id = source_id;
-        self.set_sec_header(x)
+        let mut set = self;
+        set.sec_header = x;
+        set
     }
 
     // Sets the length field afresh for this data; 7, 6.
@@ -536,7 +543,7 @@ impl PusTcCreator {
                 match v {
                     CheckResult::Err(e) => CrcResult::Err(e),
                     CheckResult::Ok => {
-                        let mut head = [0u8; 11];
+                        let mut head = [0u8; PUS_TC_MIN_LEN_WITHOUT_APP_DATA];
                         put_head(h, x, &mut head);
                         let d = crc::Digest::new();
                         CrcResult::Ok(
@@ -573,7 +580,34 @@ impl PusTcCreator {
     // Writes the packet over the first octets of the buffer and answers how many; 7, 6, 1, 3. No write takes a table for its
     // checksum, whatever its name: without one is faster at every length of a packet.
     pub fn write_to_slice(self, app_data: &[u8], buf: &mut [u8]) -> SizeResult
-        ensures { λ r. ⌜ Wrote (writeOf self (length (now («app_data» .entry))) (length (now (buf .entry)))) (octetsFor self (now («app_data» .entry))) (now (buf .entry)) r (now (buf .exit)) ⌝ }
+        ensures { λ r. ⌜ PacketWrote self (now («app_data» .entry)) (now (buf .entry)) r (now (buf .exit)) ⌝ }
+    {
+        self.write(app_data, buf)
+    }
+
+    pub fn write_to_slice_crc_no_table(self, app_data: &[u8], buf: &mut [u8]) -> SizeResult
+        ensures { λ r. ⌜ PacketWrote self (now («app_data» .entry)) (now (buf .entry)) r (now (buf .exit)) ⌝ }
+    {
+        self.write_to_slice(app_data, buf)
+    }
+
+    // Leaves the two octets of an enabled checksum as they are, for which there still must be room.
+    pub fn write_to_slice_no_crc(self, app_data: &[u8], buf: &mut [u8]) -> SizeResult
+        ensures { λ r. ⌜ ContentWrote self (now («app_data» .entry)) (now (buf .entry)) r (now (buf .exit)) ⌝ }
+    {
+        let total = self.check_write(app_data.len(), buf.len());
+        match total {
+            SizeResult::Err(e) => SizeResult::Err(e),
+            SizeResult::Ok(_) => {
+                put_head(self.sp_header, self.sec_header, buf);
+                put_data(app_data, buf)
+            }
+        }
+    }
+
+    // All octets before the checksum, then the checksum over them where there is one.
+    fn write(self, app_data: &[u8], buf: &mut [u8]) -> SizeResult
+        ensures { λ r. ⌜ PacketWrote self (now («app_data» .entry)) (now (buf .entry)) r (now (buf .exit)) ⌝ }
     {
         let written = self.write_to_slice_no_crc(app_data, buf);
         match written {
@@ -583,26 +617,6 @@ impl PusTcCreator {
                     return frame::seal(5, app_data.len(), buf);
                 }
                 SizeResult::Ok(end)
-            }
-        }
-    }
-
-    pub fn write_to_slice_crc_no_table(self, app_data: &[u8], buf: &mut [u8]) -> SizeResult
-        ensures { λ r. ⌜ Wrote (writeOf self (length (now («app_data» .entry))) (length (now (buf .entry)))) (octetsFor self (now («app_data» .entry))) (now (buf .entry)) r (now (buf .exit)) ⌝ }
-    {
-        self.write_to_slice(app_data, buf)
-    }
-
-    // Leaves the two octets of an enabled checksum as they are, for which there still must be room.
-    pub fn write_to_slice_no_crc(self, app_data: &[u8], buf: &mut [u8]) -> SizeResult
-        ensures { λ r. ⌜ Wrote (plainOf self (length (now («app_data» .entry))) (length (now (buf .entry)))) (contentFor self (now («app_data» .entry))) (now (buf .entry)) r (now (buf .exit)) ⌝ }
-    {
-        let total = self.check_write(app_data.len(), buf.len());
-        match total {
-            SizeResult::Err(e) => SizeResult::Err(e),
-            SizeResult::Ok(_) => {
-                put_head(self.sp_header, self.sec_header, buf);
-                frame::put_data(5, app_data, buf)
             }
         }
     }
@@ -622,15 +636,15 @@ impl PusTcCreator {
 
     // The names of the trait WritablePusPacket.
     pub fn write_to_slice_no_checksum(self, app_data: &[u8], buf: &mut [u8]) -> SizeResult
-        ensures { λ r. ⌜ Wrote (plainOf self (length (now («app_data» .entry))) (length (now (buf .entry)))) (contentFor self (now («app_data» .entry))) (now (buf .entry)) r (now (buf .exit)) ⌝ }
+        ensures { λ r. ⌜ ContentWrote self (now («app_data» .entry)) (now (buf .entry)) r (now (buf .exit)) ⌝ }
     {
         self.write_to_slice_no_crc(app_data, buf)
     }
 
     pub fn write_to_slice_checksum_no_table(self, app_data: &[u8], buf: &mut [u8]) -> SizeResult
-        ensures { λ r. ⌜ Wrote (writeOf self (length (now («app_data» .entry))) (length (now (buf .entry)))) (octetsFor self (now («app_data» .entry))) (now (buf .entry)) r (now (buf .exit)) ⌝ }
+        ensures { λ r. ⌜ PacketWrote self (now («app_data» .entry)) (now (buf .entry)) r (now (buf .exit)) ⌝ }
     {
-        self.write_to_slice_crc_no_table(app_data, buf)
+        self.write_to_slice(app_data, buf)
     }
 }
 
@@ -667,28 +681,6 @@ impl PusTcBuilder {
         PusTcBuilder::new()
     }
 
-    fn with_header(self, sp_header: SpHeader) -> PusTcBuilder
-        ensures { λ r. ⌜ r ≡ builderWithHeader self «sp_header» ⌝ }
-    {
-        let sec_header = self.sec_header;
-        PusTcBuilder {
-            sp_header,
-            sec_header,
-            has_checksum: self.has_checksum,
-        }
-    }
-
-    fn with_sec(self, sec_header: PusTcSecondaryHeader) -> PusTcBuilder
-        ensures { λ r. ⌜ r ≡ builderWithSec self «sec_header» ⌝ }
-    {
-        let sp_header = self.sp_header;
-        PusTcBuilder {
-            sp_header,
-            sec_header,
-            has_checksum: self.has_checksum,
-        }
-    }
-
     // The builder that was set, or where the check was refused this one.
     fn kept_if(self, result: CheckResult, set: PusTcBuilder) -> PusTcBuilderSet
         ensures { λ r. ⌜ builderKept r ≡ setIf (checkAnswer result) self set ⌝ }
@@ -711,10 +703,9 @@ impl PusTcBuilder {
     {
         let header = set.header;
         let result = set.result;
-        PusTcBuilderSet {
-            builder: self.with_header(header),
-            result,
-        }
+        let mut builder = self;
+        builder.sp_header = header;
+        PusTcBuilderSet { builder, result }
     }
 
     // Takes the flag and the APID; the type stays a telecommand's.
@@ -724,7 +715,9 @@ impl PusTcBuilder {
         let apid = packet_id.apid;
         let mut h = self.sp_header;
         h.packet_id = PacketId::new_for_tc(packet_id.sec_header_flag, apid);
-        self.kept_if(apid.check(), self.with_header(h))
+        let mut set = self;
+        set.sp_header = h;
+        self.kept_if(apid.check(), set)
     }
 
     pub fn with_packet_sequence_control(self, psc: PacketSequenceControl) -> PusTcBuilderSet
@@ -733,7 +726,9 @@ impl PusTcBuilder {
         let count = psc.seq_count;
         let mut h = self.sp_header;
         h.psc = psc;
-        self.kept_if(count.check(), self.with_header(h))
+        let mut set = self;
+        set.sp_header = h;
+        self.kept_if(count.check(), set)
     }
 
     pub fn with_sequence_count(self, seq_count: SeqCount) -> PusTcBuilderSet
@@ -748,7 +743,9 @@ impl PusTcBuilder {
     {
         let mut x = self.sec_header;
         x.message_type_id = message_type;
-        self.with_sec(x)
+        let mut set = self;
+        set.sec_header = x;
+        set
     }
 
     pub fn with_service_type_id(self, service: u8) -> PusTcBuilder
@@ -770,7 +767,9 @@ impl PusTcBuilder {
     {
         let mut x = self.sec_header;
         x.source_id = source_id;
-        self.with_sec(x)
+        let mut set = self;
+        set.sec_header = x;
+        set
     }
 
     pub fn with_ack_flags(self, ack_flags: AckFlags) -> PusTcBuilderSet
@@ -778,7 +777,9 @@ impl PusTcBuilder {
     {
         let mut x = self.sec_header;
         x.ack_flags = ack_flags;
-        self.kept_if(ack_flags.check(), self.with_sec(x))
+        let mut set = self;
+        set.sec_header = x;
+        self.kept_if(ack_flags.check(), set)
     }
 
     pub fn with_apid(self, apid: Apid) -> PusTcBuilderSet

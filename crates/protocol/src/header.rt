@@ -1,6 +1,7 @@
 // The requests on primary headers.
 use crate::fields;
 use crate::show;
+use ecss_tc::PUS_TC_MIN_LEN_WITHOUT_APP_DATA;
 use space_packet::CheckResult;
 use space_packet::MAX_APID;
 use space_packet::MAX_SEQ_COUNT;
@@ -9,7 +10,6 @@ use space_packet::SpHeader;
 use space_packet::SpHeaderResult;
 use tc_header::AckFlags;
 use tc_header::AckFlagsResult;
-use tc_header::PUS_TC_MIN_LEN_WITHOUT_APP_DATA;
 use tc_header::PusTcSecondaryHeader;
 
 // sphread DATA

@@ -98,14 +98,20 @@ fn edit(creator: PusTcCreator, data: &[u8], edits: &[u8], k: usize) -> PusTcCrea
 
 fn edit_by(c: PusTcCreator, data: &[u8], name: usize, n: u64) -> PusTcCreatorSet {
     match name {
+        2 => kept(c.set_seq_flags(SequenceFlags::new_with_raw_value(fields::low8(n)))),
         6 => c.update_ccsds_data_len(data),
         7 => c.set_apid(apid(n)),
         8 => c.set_seq_count(fields::psc(n).seq_count),
+        9 => kept(c.set_source_id(fields::low16(n))),
         10 => c.set_ack_flags(fields::ack(n)),
-        _ => PusTcCreatorSet {
-            creator: edit_freely(c, name, n),
-            result: CheckResult::Ok,
-        },
+        _ => edit_header(c, name, n),
+    }
+}
+
+fn kept(creator: PusTcCreator) -> PusTcCreatorSet {
+    PusTcCreatorSet {
+        creator,
+        result: CheckResult::Ok,
     }
 }
 
@@ -114,14 +120,8 @@ fn apid(n: u64) -> Apid {
     id.apid()
 }
 
-// The edits that refuse nothing.
-fn edit_freely(c: PusTcCreator, name: usize, n: u64) -> PusTcCreator {
-    if name == 2 {
-        return c.set_seq_flags(SequenceFlags::new_with_raw_value(fields::low8(n)));
-    }
-    if name == 9 {
-        return c.set_source_id(fields::low16(n));
-    }
+// The edits of a header that have no call of their own.
+fn edit_header(c: PusTcCreator, name: usize, n: u64) -> PusTcCreatorSet {
     if name < 5 {
         return c.set_sp_header(edit_first(c.sp_header(), name, n));
     }

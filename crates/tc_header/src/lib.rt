@@ -18,8 +18,6 @@ use space_packet::SizeResult;
 
 // Length of the secondary header.
 pub const PUC_TC_SECONDARY_HEADER_LEN: usize = 5;
-// Least length of a telecommand, with no data and no checksum.
-pub const PUS_TC_MIN_LEN_WITHOUT_APP_DATA: usize = 11;
 
 // ---- the acknowledgement flags
 

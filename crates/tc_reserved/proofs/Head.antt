@@ -6,18 +6,19 @@ use mathlib.Core.List.{List, [], _++_}
 use native.Mathlib.Omega.{arith}
 use lib.ListN.{length, drop}
 use borrow.Author.Tests.{ltb-false}
-use Rattle.space_packet.specs.Answer.{Numbers, Answer, Passed, gives, refuses, _then_}
+use Rattle.space_packet.specs.Answer.{Numbers, Answer, Passed, Kept, gives, refuses, _then_, setIf}
 use Rattle.space_packet.specs.Header.{headerCheck, leftBy}
 use Rattle.space_packet.specs.Wrote.{Wrote}
 use Rattle.space_packet.specs.declared.SpacePacketHeader.{SpacePacketHeader}
 use Rattle.space_packet.specs.declared.SizeResult.{SizeResult}
-use Rattle.space_packet.proofs.Answers.{gives-inj, refuse-gives, then-gives, gives-then, refuses-then, left-written}
+use Rattle.space_packet.proofs.Answers.{gives-inj, refuse-gives, then-gives, gives-then, refuses-then, kept-new, left-written}
 use Rattle.ecss.specs.Write.{totalFor, limited, writeIn}
 use Rattle.ecss.proofs.Frames.{write-total, total-write}
 use Rattle.tc_header.specs.Header.{versionCheck}
 use Rattle.tc_header.specs.declared.PusTcSecondaryHeader.{PusTcSecondaryHeader}
-use Rattle.ecss_tc.specs.Creator.{creatorOf, contentFor, withHeader, withLength, asCommand, creatorCheck, created, newOf, writeOf, plainOf}
+use Rattle.ecss_tc.specs.Creator.{creatorOf, contentFor, withHeader, withLength, asCommand, creatorCheck, created, newOf, creatorKept, writeOf, plainOf}
 use Rattle.ecss_tc.specs.declared.PusTcCreator.{PusTcCreator}
+use Rattle.ecss_tc.specs.declared.PusTcCreatorSet.{PusTcCreatorSet}
 use Rattle.ecss_tc.proofs.Made.{turned-refused}
 use Rattle.ecss_tc.proofs.Written.{plain-gives}
 use Rattle.tc_reserved.specs.Reserved.{reservationOf, reserveOf, headFor, reservedLeft}
@@ -113,15 +114,20 @@ head-may h x n b m t total p q =
       r .fits,
     )
 
--- without its data it writes its headers alone
-pub head-left : (t u : PusTcCreator) (total : ℕ) (k : SpacePacketHeader) (m y : List ℕ) (r : SizeResult) → creatorCheck t ≡ gives tt → versionCheck (t .«sec_header» .version) ≡ gives tt
-    → t .«has_checksum» ≡ false → 11 ≤ length m → length m ≤ 18446744073709551615 → k ≡ withLength (t .«sp_header») (total - 7) → u ≡ withHeader t k
-    → Wrote (plainOf u 0 (length m)) (contentFor u []) m r y
+-- an edit that passes hands back what was set
+set-is : (s : PusTcCreatorSet) (p : Passed) (old new : PusTcCreator) → creatorKept s ≡ setIf p old new → p ≡ gives tt → s .creator ≡ new
+set-is s p old new k q = ap (λ (z : Kept PusTcCreator). z .kept) (k ∙ sym (kept-new p p old new refl q))
+
+-- with its length set and without its data it writes its headers alone
+pub head-left : (t : PusTcCreator) (s : PusTcCreatorSet) (total : ℕ) (k : SpacePacketHeader) (m y : List ℕ) (r : SizeResult) → creatorCheck t ≡ gives tt → versionCheck (t .«sec_header» .version) ≡ gives tt
+    → t .«has_checksum» ≡ false → 11 ≤ length m → length m ≤ 18446744073709551615 → k ≡ withLength (t .«sp_header») (total - 7)
+    → creatorKept s ≡ setIf (headerCheck k) t (withHeader t k) → Wrote (plainOf (s .creator) 0 (length m)) (contentFor (s .creator) []) m r y
     → y ≡ contentFor (withHeader t (withLength (t .«sp_header») (total - 7))) [] ++ drop 11 m
 unfolding writeOf headerCheck
-head-left t u total k m y r c v f g l ek eu w =
+head-left t s total k m y r c v f g l ek es w =
     let z = withHeader t (withLength (t .«sp_header») (total - 7)) in
-    let e : u ≡ z = eu ∙ ap (withHeader t) ek in
+    let q : headerCheck k ≡ gives tt = ap headerCheck ek ∙ then-gives (headerCheck (t .«sp_header»)) _ tt c .1 in
+    let e : s .creator ≡ z = set-is s (headerCheck k) t (withHeader t k) es q ∙ ap (withHeader t) ek in
     let a : writeOf z 0 (length m) ≡ gives 11 =
     gives-then _ _ tt c
     ∙ gives-then _ _ 11 (ap (λ (b : Bool). writeIn 11 b 0 (length m)) f ∙ total-write 11 false 0 (length m) 11 (record { is = refl; fits = g }) l)

@@ -65,7 +65,8 @@ fn put_head(creator: PusTcCreator, total: usize, buf: &mut [u8])
     let mut h = creator.sp_header();
     h.data_len = (total - 7) as u16;
     let none = [0u8; 0];
-    creator.set_sp_header(h).write_to_slice_no_crc(&none, buf);
+    let set = creator.set_sp_header(h);
+    set.creator.write_to_slice_no_crc(&none, buf);
 }
 
 impl PusTcCreatorWithReservedAppData {

@@ -29,7 +29,7 @@ same-length : tie.Need-same-length
 same-length c = search needs
 
 returns : tie.Need-returns
-returns c = let a = c .before .before .before .before .before .before .before .before .args in let p = c .before .before .before .before .before .before .before .before .pre in head-left (a .creator) _ (a .total) _ (a .buf .now) _ _ (p .0) (p .1) (p .2) (omega (arith, p .3, p .5)) (omega arith) (ap (λ h. withLength h (a .total - 7)) (c .before .before .before .before .before .before .sp-header .ensures)) (c .before .before .before .before .before .set-sp-header .ensures) (c .before .before .write-to-slice-no-crc .ensures)
+returns c = let a = c .before .before .before .before .before .before .before .before .args in let p = c .before .before .before .before .before .before .before .before .pre in let s = c .before .before .before .before .before .set-sp-header in head-left (a .creator) (s .result) (a .total) _ (a .buf .now) _ _ (p .0) (p .1) (p .2) (omega (arith, p .3, p .5)) (omega (arith, c .before .before .before .before .before .before .before .before .good)) (ap (λ h. withLength h (a .total - 7)) (c .before .before .before .before .before .before .sp-header .ensures)) (s .ensures) (c .before .before .write-to-slice-no-crc .ensures)
 
 pub put-head-spec : {M : Type 1} → statement M
 put-head-spec =

@@ -1,4 +1,4 @@
-use mathlib.Core.Path.{_∙_, ap, ap₂}
+use mathlib.Core.Path.{_∙_, ap₂}
 use Rattle.space_packet.specs.Answer.{setIf}
 use Rattle.space_packet.specs.Header.{withId}
 use Rattle.ecss_tc.specs.Builder.{builderWithHeader}
@@ -12,16 +12,13 @@ new-for-tc-requires c κs = search needs
 check-requires : tie.Need-check-requires
 check-requires c κs = search needs
 
-with-header-requires : tie.Need-with-header-requires
-with-header-requires c κs = search needs
-
 kept-if-requires : tie.Need-kept-if-requires
 kept-if-requires c κs = search needs
 
 returns : tie.Need-returns
-returns c = let a = c .before .before .before .before .before .before .args in c .kept-if .ensures ∙ ap₂ (λ p t. setIf p (a .self) t) (c .before .before .check .ensures) (c .before .with-header .ensures ∙ ap (λ i. builderWithHeader (a .self) (withId (a .self .«sp_header») i)) (c .before .before .before .new-for-tc .ensures))
+returns c = let a = c .before .before .before .before .before .args in c .kept-if .ensures ∙ ap₂ (λ p i. setIf p (a .self) (builderWithHeader (a .self) (withId (a .self .«sp_header») i))) (c .before .check .ensures) (c .before .before .new-for-tc .ensures)
 
 pub with-packet-id-spec : {M : Type 1} → statement M
 with-packet-id-spec =
     tie.close
-    (tie.spec new-for-tc-requires check-requires with-header-requires kept-if-requires returns)
+    (tie.spec new-for-tc-requires check-requires kept-if-requires returns)

@@ -1,5 +1,7 @@
-use mathlib.Core.Path.{_∙_, ap₂}
+use mathlib.Core.Path.{_∙_, ap}
 use Rattle.space_packet.specs.Answer.{setIf}
+use Rattle.space_packet.specs.Header.{withPsc}
+use Rattle.ecss_tc.specs.Builder.{builderWithHeader}
 use borrow.Author.Needs.{needs}
 use Rattle.ecss_tc.proofs.PusTcBuilder.with_packet_sequence_control.Statement.{statement}
 use Rattle.ecss_tc.proofs.PusTcBuilder.with_packet_sequence_control.Tie as tie
@@ -7,15 +9,12 @@ use Rattle.ecss_tc.proofs.PusTcBuilder.with_packet_sequence_control.Tie
 check-requires : tie.Need-check-requires
 check-requires c κs = search needs
 
-with-header-requires : tie.Need-with-header-requires
-with-header-requires c κs = search needs
-
 kept-if-requires : tie.Need-kept-if-requires
 kept-if-requires c κs = search needs
 
 returns : tie.Need-returns
-returns c = let a = c .before .before .before .before .before .args in c .kept-if .ensures ∙ ap₂ (λ p t. setIf p (a .self) t) (c .before .before .check .ensures) (c .before .with-header .ensures)
+returns c = let a = c .before .before .before .before .args in c .kept-if .ensures ∙ ap (λ p. setIf p (a .self) (builderWithHeader (a .self) (withPsc (a .self .«sp_header») (a .psc)))) (c .before .check .ensures)
 
 pub with-packet-sequence-control-spec : {M : Type 1} → statement M
 with-packet-sequence-control-spec =
-    tie.close (tie.spec check-requires with-header-requires kept-if-requires returns)
+    tie.close (tie.spec check-requires kept-if-requires returns)

@@ -3,8 +3,8 @@ use Rattle.space_packet.specs.Answer.{sizeAnswer}
 use mathlib.Core.Path.{_∙_, ap, refl, sym}
 use native.Mathlib.Omega.{arith}
 use borrow.Author.Needs.{needs}
-use Rattle.ecss_tc.proofs.PusTcCreator.write_to_slice.Statement.{statement}
-use Rattle.ecss_tc.proofs.PusTcCreator.write_to_slice.Tie as tie
+use Rattle.ecss_tc.proofs.PusTcCreator.write.Statement.{statement}
+use Rattle.ecss_tc.proofs.PusTcCreator.write.Tie as tie
 
 write-to-slice-no-crc-requires : tie.Need-write-to-slice-no-crc-requires
 write-to-slice-no-crc-requires c κs = search needs
@@ -36,8 +36,8 @@ same-length-3 c = search needs
 returns-3 : tie.Need-returns-3
 returns-3 c = let a = c .before .before .before .before .before .before .before .before .before .before .args in let w = c .before .before .before .before .before .before .write-to-slice-no-crc .ensures in let e = c .before .before .written2 .given .1 in open-wrote (a .self) (a .app-data .now) (a .buf .now) _ _ (c .if1 .left) (record { answered = sym (ap sizeAnswer e) ∙ w .answered; left = w .left })
 
-pub write-to-slice-spec : {M : Type 1} → statement M
-write-to-slice-spec =
+pub write-spec : {M : Type 1} → statement M
+write-spec =
     tie.close
     (tie.spec
     write-to-slice-no-crc-requires
