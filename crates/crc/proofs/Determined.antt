@@ -1,5 +1,4 @@
 -- Two results that meet the contract of a public call are equal: a theorem for each, under its name.
--- Assumes nothing.
 use mathlib.Core.Path.{_≡_, sym, _∙_}
 use mathlib.Core.List.{List, []}
 use Prim.Native.Nat.{ℕ}

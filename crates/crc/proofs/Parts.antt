@@ -1,5 +1,4 @@
 -- The digest's law: a list in two parts gives what the whole gives.
--- Assumes nothing.
 use mathlib.Core.Path.{_≡_, sym, ap}
 use mathlib.Core.List.{List, [], _++_}
 use Prim.Native.Nat.{ℕ}

@@ -1,5 +1,4 @@
 -- Two functions that take sums to sums, and agree at every power of two, agree.
--- Assumes nothing.
 use mathlib.Core.Path.{_≡_, refl, sym, ap, ap₂, _∙_}
 use Prim.Native.Nat.{ℕ, zero, suc, _*_, _/_, _%_, _^_, _<_}
 use native.Mathlib.Nat.{mod-lt, div-lt-iff-lt-mul, pow-suc, mul-comm, one-mul, zero-mul, not-suc-le-zero, le-of-suc-le-suc}

@@ -1,5 +1,4 @@
 -- Folding: what stands at the front of a row is struck out, and added again at three places behind.
--- Assumes nothing.
 use mathlib.Core.Path.{_≡_, refl, sym, ap, ap₂, _∙_}
 use mathlib.Core.Bool.{false}
 use mathlib.Core.List.{List, [], _∷_, _++_, append-assoc}

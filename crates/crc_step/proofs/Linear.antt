@@ -1,5 +1,4 @@
 -- The register is linear: what goes in as a sum comes out as a sum, and what goes in by parts as from the whole.
--- Assumes nothing.
 use mathlib.Core.Path.{_≡_, refl, sym, ap, ap₂, _∙_}
 use mathlib.Core.Bool.{Bool}
 use mathlib.Core.List.{List, [], _∷_, _++_}

@@ -1,5 +1,4 @@
 -- The register takes in a whole octet at once: the step that both forms compute.
--- Assumes nothing.
 use mathlib.Core.Path.{_≡_, sym, ap, ap₂, _∙_}
 use Prim.Native.Nat.{ℕ, zero, suc, _+_, _*_, _/_, _%_, _<_}
 use native.Mathlib.Nat.{mod-lt, not-suc-le-zero, le-of-suc-le-suc, add-zero, suc-add, add-suc, zero-add}

@@ -1,6 +1,5 @@
 -- The residue: octets followed by two more have the checksum 0 exactly when the two are the
 -- checksum of the rest, the high octet first.
--- Assumes nothing.
 use mathlib.Core.Path.{_≡_, sym, ap, ap₂, _∙_}
 use mathlib.Core.Logic.{_↔_}
 use mathlib.Core.List.{List, [], _∷_, _++_}

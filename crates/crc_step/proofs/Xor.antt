@@ -1,5 +1,4 @@
 -- The laws of `_⊕_`: a commutative group of exponent two, that shifts, remainders and the lowest bit go through.
--- Assumes nothing.
 use mathlib.Core.Path.{_≡_, refl, sym, ap, ap₂, _∙_}
 use mathlib.Core.Bool.{Bool, true, false}
 use Prim.Native.Nat.{ℕ, zero, suc, _+_, _*_, _/_, _%_, _^_, _<_}

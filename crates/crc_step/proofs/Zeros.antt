@@ -1,5 +1,4 @@
 -- The register stays below 65536, and no row of zero bits takes a register that is not 0 to 0.
--- Assumes nothing.
 use mathlib.Core.Path.{_≡_, refl}
 use mathlib.Core.Bool.{Bool, true, false, true≢false}
 use mathlib.Core.List.{List, [], _∷_}
