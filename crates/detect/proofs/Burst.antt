@@ -1,5 +1,4 @@
--- A burst of at most 16 bits leaves a register that is not 0.
--- Assumes nothing.
+-- A burst leaves a register that is not 0.
 use mathlib.Core.Path.{_≡_, refl, sym, ap, _∙_, subst}
 use mathlib.Core.Bool.{Bool, true, false, false≢true}
 use mathlib.Core.List.{List, [], _∷_, _++_}
@@ -12,7 +11,7 @@ use lib.Pow.{pow-pos, mod-mod-pow}
 use lib.ListN.{length, getD, take, drop, take-append-drop, length-take}
 use lib.Seq.{getD-drop}
 use Rattle.crc_step.specs.Crc.{_⊕_, differs, bit, feedback, shiftIn, run}
-use Rattle.detect.specs.Error.{Burst}
+use Rattle.detect.specs.Error.{Within, longest, Burst}
 use Rattle.crc_step.proofs.Xor.{⊕-zero, bit-⊕}
 use Rattle.crc_step.proofs.Linear.{run-++}
 use Rattle.crc_step.proofs.Zeros.{Clear, none, next, run-clear, run-lt}
@@ -59,10 +58,10 @@ low-clear (b ∷ bs) k r h e =
 odd-generator : (k : ℕ) → 4129 % 2 ^ suc k ≡ 0 → ⊥
 odd-generator k e = omega (arith, halving 4129 k e .1)
 
-room : (n : ℕ) → n < 16 → n + suc (15 - n) ≡ 16
+room : (n : ℕ) → n < longest → n + suc (15 - n) ≡ 16
 room n h = omega arith
 
-pub short : (bs : List Bool) → length bs ≤ 16 → run 0 bs ≡ 0 → Clear bs
+pub short : (bs : List Bool) → length bs ≤ longest → run 0 bs ≡ 0 → Clear bs
 unfolding run shiftIn bit _⊕_
 short [] h e = none
 short (true ∷ bs) h e = absurd (odd-generator (15 - length bs) (low-clear bs (suc (15 - length bs)) 4129 (room (length bs) h) e))
@@ -79,36 +78,36 @@ clear-++ : {ds bs : List Bool} → Clear ds → Clear bs → Clear (ds ++ bs)
 clear-++ none d = d
 clear-++ (next c) d = next (clear-++ c d)
 
-clear-getD : {bs : List Bool} → Clear bs → (k : ℕ) → getD bs k false ≡ true → ⊥
+pub clear-getD : {bs : List Bool} → Clear bs → (k : ℕ) → getD bs k false ≡ true → ⊥
 clear-getD none k e = false≢true e
 clear-getD (next c) zero e = false≢true e
 clear-getD (next c) (suc k) e = clear-getD c k e
 
-at-start : (bs : List Bool) → ((k : ℕ) → getD bs k false ≡ true → k < 16) → run 0 bs ≡ 0 → Clear bs
+at-start : (bs : List Bool) → ((k : ℕ) → getD bs k false ≡ true → k < longest) → run 0 bs ≡ 0 → Clear bs
 at-start bs w e =
-    let rest : Clear (drop 16 bs) = clear-of (drop 16 bs) (λ k f. past k (w (16 + k) (sym (getD-drop 16 bs k false) ∙ f))) in
-    let z : run (run 0 (take 16 bs)) (drop 16 bs) ≡ 0 = sym (run-++ 0 (take 16 bs) (drop 16 bs)) ∙ ap (run 0) (take-append-drop 16 bs) ∙ e in
-    subst Clear (take-append-drop 16 bs)
-    (clear-++ (short (take 16 bs) (simp length-take (omega arith))
-    (run-clear rest (run 0 (take 16 bs)) (run-lt 0 (take 16 bs) (lit< tt)) z)) rest)
+    let rest : Clear (drop longest bs) = clear-of (drop longest bs) (λ k f. past k (w (longest + k) (sym (getD-drop longest bs k false) ∙ f))) in
+    let z : run (run 0 (take longest bs)) (drop longest bs) ≡ 0 = sym (run-++ 0 (take longest bs) (drop longest bs)) ∙ ap (run 0) (take-append-drop longest bs) ∙ e in
+    subst Clear (take-append-drop longest bs)
+    (clear-++ (short (take longest bs) (simp length-take (omega arith))
+    (run-clear rest (run 0 (take longest bs)) (run-lt 0 (take longest bs) (lit< tt)) z)) rest)
   where
-    past : (k : ℕ) → 16 + k < 16 → ⊥
+    past : (k : ℕ) → longest + k < longest → ⊥
     past k h = omega arith
 
-anywhere : (bs : List Bool) (p : ℕ) → ((k : ℕ) → getD bs k false ≡ true → (p ≤ k) × (k < p + 16)) → run 0 bs ≡ 0 → Clear bs
+anywhere : (bs : List Bool) (p : ℕ) → Within longest p bs → run 0 bs ≡ 0 → Clear bs
 unfolding run shiftIn bit _⊕_
 anywhere bs zero w e = at-start bs (λ k f. lower k (w k f)) e
   where
-    lower : (k : ℕ) → (0 ≤ k) × (k < 0 + 16) → k < 16
+    lower : (k : ℕ) → (0 ≤ k) × (k < 0 + longest) → k < longest
     lower k h = omega arith
 anywhere [] (suc p) w e = none
 anywhere (true ∷ bs) (suc p) w e = absurd (never (w 0 refl))
   where
-    never : (suc p ≤ 0) × (0 < suc p + 16) → ⊥
+    never : (suc p ≤ 0) × (0 < suc p + longest) → ⊥
     never h = omega arith
 anywhere (false ∷ bs) (suc p) w e = next (anywhere bs p (λ k f. down k (w (suc k) f)) e)
   where
-    down : (k : ℕ) → (suc p ≤ suc k) × (suc k < suc p + 16) → (p ≤ k) × (k < p + 16)
+    down : (k : ℕ) → (suc p ≤ suc k) × (suc k < suc p + longest) → (p ≤ k) × (k < p + longest)
     down k h = (omega arith, omega arith)
 
 pub burst-leaves : (bs : List Bool) → Burst bs → run 0 bs ≡ 0 → ⊥

@@ -1,3 +1,4 @@
 pub mod Parity
 pub mod Burst
 pub mod Detect
+pub mod Most

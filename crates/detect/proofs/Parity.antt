@@ -1,5 +1,4 @@
 -- The generator has an even number of terms, so the register keeps whether the bits that came in are odd in number.
--- Assumes nothing.
 use mathlib.Core.Path.{_≡_, refl, sym, ap, ap₂, _∙_}
 use mathlib.Core.Bool.{Bool, true, false, not, Bool·beq, true≢false}
 use mathlib.Core.List.{List, [], _∷_}

@@ -12,10 +12,18 @@ ones [] = 0
 ones (true ∷ bs) = suc (ones bs)
 ones (false ∷ bs) = ones bs
 
--- one or more bits are set, and all of them lie within the run of 16 consecutive bits from `first` on
+-- all bits that are set lie within the run of n consecutive bits from `first` on
+abbrev pub Within : ℕ → ℕ → List Bool → Type 0
+Within n first bs = (k : ℕ) → getD bs k false ≡ true → (first ≤ k) × (k < first + n)
+
+-- as many bits as the checksum has
+abbrev pub longest : ℕ
+longest = 16
+
+-- one or more bits are set, and all of them lie within one such run
 pub record Burst (bs : List Bool) : Type 0 where
   pub first : ℕ
-  pub within : (k : ℕ) → getD bs k false ≡ true → (first ≤ k) × (k < first + 16)
+  pub within : Within longest first bs
   pub place : ℕ
   pub set : getD bs place false ≡ true
 
