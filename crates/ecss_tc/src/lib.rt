@@ -38,10 +38,8 @@ use space_packet::SpHeaderSet;
 pub use tc_header::ACK_ALL;
 pub use tc_header::AckFlags;
 pub use tc_header::PUC_TC_SECONDARY_HEADER_LEN;
+pub use tc_header::PUS_TC_MIN_LEN_WITHOUT_APP_DATA;
 pub use tc_header::PusTcSecondaryHeader;
-
-// Least length of a telecommand, with no data and no checksum.
-pub const PUS_TC_MIN_LEN_WITHOUT_APP_DATA: usize = 11;
 
 // ---- the creator
 

@@ -1,18 +1,20 @@
--- The octets of a header are the row of its fields.
-use Prim.Native.Nat.{ℕ, zero, suc, _+_, _*_, _/_, _%_, _^_, _<_}
+-- The octets of a header are the row of its fields, written and read.
+use Prim.Native.Nat.{ℕ, zero, suc, _+_, _*_, _/_, _%_, _^_, _≤_, _<_}
 use mathlib.Core.Path.{_≡_, refl, sym, ap, _∙_}
 use mathlib.Core.Bool.{Bool}
 use mathlib.Core.List.{List, [], _∷_, _++_, append-assoc, append-nil}
 use native.Mathlib.Omega.{arith}
 use native.Mathlib.Nat.{zero-add, suc-add, mul-assoc, mul-left-comm, pow-succ', one-le-pow, mul-add-div-right, div-div-eq-div-mul, div-eq-of-lt, div-add-mod'}
 use lib.Dec.{eqb}
+use lib.ListN.{length, getD, take}
 use Rattle.space_packet.specs.Bits.{bits, row, be16, lowest, flagNumber}
 use Rattle.space_packet.specs.Fields.{typeNumber, flagsNumber, idRaw, pscRaw}
-use Rattle.space_packet.specs.Header.{headerRow, headerOctets}
+use Rattle.space_packet.specs.Header.{headerRow, headerOctets, readHeader}
 use Rattle.space_packet.specs.declared.PacketId.{PacketId}
 use Rattle.space_packet.specs.declared.PacketSequenceControl.{PacketSequenceControl}
 use Rattle.space_packet.specs.declared.SpacePacketHeader.{SpacePacketHeader}
 use Rattle.space_packet.proofs.Numbers.{id-raw-lt, flag-le}
+use Rattle.space_packet.proofs.RoundTrip.{written-read}
 
 -- what stands above the w lowest bits does not change them
 pub bits-low : (w x y : ℕ) → bits w (x * 2 ^ w + y) ≡ bits w y
@@ -71,9 +73,14 @@ psc-row p =
     bits-split 2 14 (flagsNumber (p .«seq_flags»)) (p .«seq_count» .0 % 16384) (omega arith)
     ∙ ap (λ (l : List Bool). bits 2 (flagsNumber (p .«seq_flags»)) ++ l) (bits-mask 14 (p .«seq_count» .0))
 
+-- the octets that are written for a header
 pub layout : (h : SpacePacketHeader) → row (headerOctets h) ≡ headerRow h
 unfolding headerOctets headerRow
 layout h =
     let w = h .version * 8192 + idRaw (h .«packet_id») in
     let v : bits 16 w ≡ bits 3 (h .version) ++ bits 13 (idRaw (h .«packet_id»)) = bits-split 3 13 (h .version) (idRaw (h .«packet_id»)) (id-raw-lt (h .«packet_id»)) in
     rw (word-row w (be16 (pscRaw (h .psc)) ++ be16 (h .«data_len»)), word-row (pscRaw (h .psc)) (be16 (h .«data_len»)), last-row (h .«data_len»), v, id-row, psc-row) (simp append-assoc)
+
+-- the header that is read from octets
+pub layout-read : (s : List ℕ) → 6 ≤ length s → ((i : ℕ) → getD s i 0 < 256) → headerRow (readHeader s) ≡ row (take 6 s)
+layout-read s n o = sym (layout (readHeader s)) ∙ ap row (written-read s n o)

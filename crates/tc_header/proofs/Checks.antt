@@ -40,5 +40,5 @@ three-then (gives u) c (gives n) k = refl
 
 -- a write is its three checks, and then its size
 pub write-checked : (x : PusTcSecondaryHeader) (n : ℕ) → secWrite x n ≡ ((ackCheck (x .«ack_flags») then λ _. inBuffer n 5 then λ _. versionCheck (x .version)) then λ _. gives 5)
-unfolding secWrite
+unfolding secWrite _then_
 write-checked x n = sym (three-then (ackCheck (x .«ack_flags»)) (versionCheck (x .version)) (inBuffer n 5) (gives 5))

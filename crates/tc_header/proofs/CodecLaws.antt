@@ -43,10 +43,10 @@ five-octets l e =
     rw (sym (take-all 5 l (omega arith)))
     (rw (take-suc l 4 0 (omega arith), take-suc l 3 0 (omega arith), take-suc l 2 0 (omega arith), take-suc l 1 0 (omega arith), take-suc l 0 0 (omega arith)))
 
-enc-dec : (h : SpacePacketHeader) (l : List ℕ) → Octets l → length l ≡ 5 → commandRule 2 h (getD l 0 0) ≡ gives tt → secOctets (secOf l) ≡ l
+-- five octets of version C, read and written again
+pub written-read : (l : List ℕ) → Octets l → length l ≡ 5 → getD l 0 0 / 16 ≡ 2 → secOctets (secOf l) ≡ l
 unfolding secOctets secOf
-enc-dec h l o e p =
-    let v = rule-command 2 h (getD l 0 0) p .1 in
+written-read l o e v =
     let b4 = o 4 in
     let p0 : 32 + getD l 0 0 % 16 ≡ getD l 0 0 = omega arith in
     let p3 : word l 3 / 256 ≡ getD l 3 0 = omega arith in
@@ -55,4 +55,4 @@ enc-dec h l o e p =
 
 pub laws : Laws pusC
 laws =
-    record { enc-size = λ h x s. length-secOctets x; dec-enc = dec-enc; rule-enc = rule-enc; rule-dec = λ h l o e p. rule-dec h l p; enc-dec = enc-dec }
+    record { enc-size = λ h x s. length-secOctets x; dec-enc = dec-enc; rule-enc = rule-enc; rule-dec = λ h l o e p. rule-dec h l p; enc-dec = λ h l o e p. written-read l o e (rule-command 2 h (getD l 0 0) p .1) }

@@ -6,9 +6,10 @@ ghost use lib.ListN.{length, drop};
 ghost use Rattle.space_packet.specs.Bits.{lowest};
 ghost use Rattle.space_packet.specs.Answer.{gives, _then_, inRange, checkAnswer};
 ghost use Rattle.space_packet.specs.Wrote.{Wrote};
+ghost use Rattle.ecss.specs.Codec.{startOf};
 ghost use Rattle.ecss.specs.Write.{inBuffer};
 ghost use Rattle.ecss.specs.declared.PusVersion.the-variants.{PusC};
-ghost use Rattle.tc_header.specs.Header.{ackCheck, ackOf, ackAnswer, withFlag, secOctets, secFrom, versionCheck, secWrite, secRead, secAnswer, sameSec};
+ghost use Rattle.tc_header.specs.Header.{ackCheck, ackOf, ackAnswer, withFlag, secOctets, secFrom, versionCheck, secWrite, secRead, secAnswer, sameSec, pusC};
 use ecss::MessageTypeId;
 use ecss::PusError;
 use ecss::PusVersion;
@@ -18,6 +19,15 @@ use space_packet::SizeResult;
 
 // Length of the secondary header.
 pub const PUC_TC_SECONDARY_HEADER_LEN: usize = 5;
+// Least length of a telecommand, with no data and no checksum.
+pub const PUS_TC_MIN_LEN_WITHOUT_APP_DATA: usize = 11;
+
+// Holds that length to the octet at which the data starts, and is there for its contract.
+fn min_len() -> usize
+    ensures { λ r. ⌜ r ≡ startOf pusC ⌝ }
+{
+    PUS_TC_MIN_LEN_WITHOUT_APP_DATA
+}
 
 // ---- the acknowledgement flags
 
