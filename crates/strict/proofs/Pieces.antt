@@ -48,14 +48,15 @@ step-tail s at h t =
     let e = ap (λ (b : Bool). pick b (tail at (length rest)) (packet at (statedOf rest) (strictOf (take (statedOf rest) rest)))) t ∙ ap (tail at) (length-drop at s) in
     let n : at + (length s - at) ≡ length s = omega arith in step-piece s at (tail at (length s - at)) h e ∙ ap (piece (tail at (length s - at))) n
 
-pub step-packet : (s : List ℕ) (at n : ℕ) (v : Answer PusTcRecord) → at < length s → isTail (drop at s) ≡ false → n ≡ statedOf (drop at s) → v ≡ strictOf (take n (drop at s)) → stepOf s at ≡ piece (packet at n v) (at + n)
+pub step-packet : (s : List ℕ) (at n : ℕ) (v : Answer PusTcRecord) → at < length s → isTail (drop at s) ≡ false → n ≡ statedOf (drop at s)
+    → v ≡ strictOf (take n (take (length s - at) (drop at s))) → stepOf s at ≡ piece (packet at n v) (at + n)
 unfolding pieceOf
 step-packet s at n v h t e k =
     let rest = drop at s in
     step-piece s at (packet at n v) h
     (ap (λ (b : Bool). pick b (tail at (length rest)) (packet at (statedOf rest) (strictOf (take (statedOf rest) rest)))) t
     ∙ ap (λ (m : ℕ). packet at m (strictOf (take m rest))) (sym e)
-    ∙ ap (packet at n) (sym k))
+    ∙ ap (packet at n) (sym (k ∙ ap (λ (l : List ℕ). strictOf (take n l)) (rest-is s at))))
 
 -- ---- what a piece says
 

@@ -25,12 +25,12 @@ last (refuses e) p r = refl
 
 -- where the reader refuses, the verdict is its refusal
 pub verdict-refused : (s : List ℕ) (e : Numbers) → checkedRead s ≡ refuses e → strictOf s ≡ refuses e
-unfolding strictOf judge
+unfolding strictOf judge _then_
 verdict-refused s e p = refuses-then _ _ e (refuses-then _ _ e (checked-refused s e p))
 
 -- else it is the strict checks', with the reader's record
 pub verdict-ruled : (s : List ℕ) (r : PusTcRecord) → checkedRead s ≡ gives r → strictOf s ≡ (commandRule 2 (r .«sp_header») (getD s 6 0) then λ _. gives r)
-unfolding strictOf judge recordOf
+unfolding strictOf judge recordOf _then_
 verdict-ruled s r p =
     let q = checked-is s r p in
     let n = checked-total 11 s (r .total) (q .0) .0 .is in

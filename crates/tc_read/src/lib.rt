@@ -71,7 +71,7 @@ impl PusTcRecord {
     {
         let f = frame::checked(slice, 5);
         match f {
-            SizeResult::Err(e) => PusTcRecordResult::Err(e),
+            SizeResult::Err(refusal) => PusTcRecordResult::Err(refusal),
             SizeResult::Ok(total) => PusTcRecord::of(slice, total, true),
         }
     }

@@ -66,8 +66,7 @@ returns-4 c =
     let h = rw (rest-is s at) at (c .before .before .before .before .if2 .left) in
     let k = rw (c .before .before .before .word-at .ensures, rest-is s at) at (c .before .before .if3 .left) in
     let n = rw (rest-is s at) at (c .before .before .before .word-at .ensures) in
-    let v = rw (rest-is s at) at (c .judge .ensures) in
-    sym (step-packet s at _ _ (c .before .before .before .before .before .before .if1 .left) (whole (drop at s) h k) (ap (λ (x : ℕ). x + 7) n) v)
+    sym (step-packet s at _ _ (c .before .before .before .before .before .before .if1 .left) (whole (drop at s) h k) (ap (λ (x : ℕ). x + 7) n) (c .judge .ensures))
 
 pub step-spec : {M : Type 1} → statement M
 step-spec =
