@@ -1,7 +1,7 @@
 -- The third demand: the strict verdict accepts bytes exactly when they begin with a checksummed telecommand that the written
 -- rules produce from some headers and at most 65,529 octets of data. `strict::judge` answers `strictOf` of its octets.
-use Prim.Native.Nat.{ℕ, _+_, _≤_}
-use mathlib.Core.Path.{_≡_, refl, sym, ap, _∙_, subst}
+use Prim.Native.Nat.{ℕ, _+_, _-_, _≤_}
+use mathlib.Core.Path.{_≡_, refl, sym, ap, ap₂, _∙_, subst}
 use mathlib.Core.Logic.{_↔_}
 use mathlib.Core.Bool.{Bool, true}
 use mathlib.Core.List.{List, _++_}
@@ -19,6 +19,7 @@ use Rattle.ecss.specs.Version.{defaultConfig}
 use Rattle.reserve.specs.Reserve.{finishIn, finished}
 use Rattle.ecss.specs.declared.PusVersion.the-variants.{PusC}
 use Rattle.ecss.specs.Codec.{Written, judge, packetOf}
+use Rattle.ecss.proofs.Pieces.{data-is}
 use Rattle.tc_header.specs.Header.{pusC}
 use Rattle.tc_header.specs.declared.PusTcSecondaryHeader.{PusTcSecondaryHeader}
 use Rattle.tc_header.proofs.CodecLaws.{laws}
@@ -105,6 +106,15 @@ reports s h x d b =
     gives-then _ _ _ (judged s h x d b)
     ∙ ap (λ (n : ℕ). gives (recordOf s true n)) (stated-total s h x d b)
     ∙ ap gives (sym (checked-is s (reportFor h x d) (reader-reports s h x d b .1) .1))
+
+-- the octets from its start up to its end are the data,
+pub reported-data : (s : List ℕ) (h : SpacePacketHeader) (x : PusTcSecondaryHeader) (d : List ℕ) → BeginsWith s h x d
+    → take (reportFor h x d .end - reportFor h x d .start) (drop (reportFor h x d .start) s) ≡ d
+reported-data s h x d b =
+    let r = b .rules in
+    let n : 11 + length d - 11 ≡ length d = omega arith in
+    ap₂ (λ (m : ℕ) (z : List ℕ). take m (drop 11 z)) n (b .octets)
+    ∙ data-is pusC laws true (telecommand h x d) (b .rest) (record { in-range = r .in-range; beside = h; strict = written s h x d b .strict; states-length = r .states-length })
 
 -- and they are the only ones.
 pub only : (s : List ℕ) (h g : SpacePacketHeader) (x y : PusTcSecondaryHeader) (d e : List ℕ) → BeginsWith s h x d → BeginsWith s g y e

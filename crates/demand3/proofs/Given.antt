@@ -62,7 +62,7 @@ module _ (h : SpacePacketHeader) (x : PusTcSecondaryHeader) (d : List ℕ) (g : 
   total = 11 + length d + 2
 
   stated : total ≤ 65542
-  stated = let m : length d ≤ 65529 = g .at-most in omega arith
+  stated = omega (arith, g .at-most)
 
   pub handed-rules : Rules (headerFor h d) x d
   handed-rules =

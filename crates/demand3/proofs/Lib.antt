@@ -1,3 +1,4 @@
 pub mod Given
 pub mod Demand3
 pub mod Cases
+pub mod Bits

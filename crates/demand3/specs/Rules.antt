@@ -1,17 +1,19 @@
 -- The written rules of a strictly accepted PUS-C telecommand, in the records of its headers.
 use Prim.Native.Nat.{ℕ, _+_, _-_, _≤_}
 use mathlib.Core.Path.{_≡_}
+use mathlib.Core.Logic.{_↔_}
 use mathlib.Core.Bool.{true}
 use mathlib.Core.List.{List, _++_}
 use lib.ListN.{length, drop}
 use Rattle.crc_step.specs.Crc.{crcOf}
-use Rattle.space_packet.specs.Answer.{gives}
+use Rattle.space_packet.specs.Answer.{Numbers, gives, refuses}
 use Rattle.space_packet.specs.Header.{InRange, totalOf}
 use Rattle.space_packet.specs.Wrote.{Wrote}
 use Rattle.space_packet.specs.declared.SpacePacketHeader.{SpacePacketHeader}
 use Rattle.space_packet.specs.declared.PacketType.the-variants.{Tc}
 use Rattle.space_packet.specs.declared.SizeResult.{SizeResult}
 use Rattle.space_packet.specs.declared.SizeResult.the-variants.{Ok}
+use Rattle.ecss.specs.Frame.{statedOf}
 use Rattle.ecss.specs.Codec.{Packet, packetOf, contentOf}
 use Rattle.reserve.specs.Reserve.{fillIn, filledBy, finishIn, finished}
 use Rattle.ecss.specs.declared.PusVersion.the-variants.{PusC}
@@ -23,12 +25,17 @@ use Rattle.ecss_tc.specs.declared.PusTcCreator.{PusTcCreator}
 use Rattle.tc_reserved.specs.declared.PusTcCreatorWithReservedAppData.{PusTcCreatorWithReservedAppData}
 use Rattle.tc_read.specs.declared.PusTcRecord.{PusTcRecord}
 use Rattle.ecss.specs.declared.Crc16.the-variants.{Some}
+use Rattle.exactness.specs.Changed.{Changed}
 use Rattle.strict.specs.Verdict.{strictOf, verdictAnswer}
 use Rattle.strict.specs.declared.Verdict.{Verdict}
 
 -- the headers h and x, and the application data d
 abbrev pub telecommand : SpacePacketHeader → PusTcSecondaryHeader → List ℕ → Packet PusTcSecondaryHeader
 telecommand h x d = record { primary = h; secondary = x; user = d }
+
+-- the most that a length field of 16 bits has room for
+abbrev pub AtMost : List ℕ → Type 0
+AtMost d = length d ≤ 65529
 
 -- they are in range, with packet version 0, a telecommand's type and flag, PUS C, and the length field stating the total
 pub record Rules (h : SpacePacketHeader) (x : PusTcSecondaryHeader) (d : List ℕ) : Type 0 where
@@ -39,7 +46,7 @@ pub record Rules (h : SpacePacketHeader) (x : PusTcSecondaryHeader) (d : List �
   pub has-secondary : h .«packet_id» .«sec_header_flag» ≡ true
   pub pus-c : x .version ≡ PusC
   pub states-length : totalOf h ≡ 11 + length d + 2
-  pub at-most : length d ≤ 65529
+  pub at-most : AtMost d
 
 -- the octets s begin with the packet of them: both headers, the data, and the checksum over all of these
 pub record BeginsWith (s : List ℕ) (h : SpacePacketHeader) (x : PusTcSecondaryHeader) (d : List ℕ) : Type 0 where
@@ -58,6 +65,23 @@ reportFor h x d = record {
   crc16 = Some (crcOf (contentOf pusC (telecommand h x d)));
 }
 
+-- ---- what is judged
+
+-- the verdict v accepts them and reports them
+abbrev pub Accepts : Verdict → SpacePacketHeader → PusTcSecondaryHeader → List ℕ → Type 0
+Accepts v h x d = verdictAnswer v ≡ gives (reportFor h x d)
+
+-- the verdict v on s accepts if and only if s begins with such a packet, and reports that packet
+pub record Exact (v : Verdict) (s : List ℕ) : Type 0 where
+  pub exactly : ((r : PusTcRecord) × (verdictAnswer v ≡ gives r))
+      ↔ ((h : SpacePacketHeader) × (x : PusTcSecondaryHeader) × (d : List ℕ) × BeginsWith s h x d)
+  pub reports : (h : SpacePacketHeader) (x : PusTcSecondaryHeader) (d : List ℕ) → BeginsWith s h x d → Accepts v h x d
+
+-- where the verdict v accepts s, the verdict w refuses s′, to which s is changed inside its stated total
+abbrev pub RefusesChanged : Verdict → List ℕ → Verdict → List ℕ → Type 0
+RefusesChanged v s w s′ =
+    (r : PusTcRecord) → verdictAnswer v ≡ gives r → Changed s s′ (statedOf s) → (n : Numbers) × (verdictAnswer w ≡ refuses n)
+
 -- ---- what is written
 
 -- headers and data as they are handed to construction, to the builder or to the reserved writer, which set the rest
@@ -66,7 +90,7 @@ pub record Handed (h : SpacePacketHeader) (x : PusTcSecondaryHeader) (d : List �
   pub ack-fits : x .«ack_flags» .0 ≤ 15
   pub version-zero : h .version ≡ 0
   pub pus-c : x .version ≡ PusC
-  pub at-most : length d ≤ 65529
+  pub at-most : AtMost d
 
 -- the header that they write: h as a telecommand with a secondary header, its length the total minus 7
 abbrev pub headerFor : SpacePacketHeader → List ℕ → SpacePacketHeader
@@ -92,10 +116,6 @@ pub record FinishedBy (q : PusTcCreatorWithReservedAppData) (h : SpacePacketHead
   pub reserves : headed ≡ reservedLeft (reserveOf h x (length d) true (length before)) (headFor h x (length d) true) before
   pub fills : filled ≡ filledBy (fillIn 11 (q .0) (length headed) (length d)) 11 d headed
   pub finishes : Wrote (finishIn 11 (q .0) (length filled)) (finished (q .0) filled) filled r after
-
--- the verdict v accepts them and reports them
-abbrev pub Accepts : Verdict → SpacePacketHeader → PusTcSecondaryHeader → List ℕ → Type 0
-Accepts v h x d = verdictAnswer v ≡ gives (reportFor h x d)
 
 -- the answer r is the total; `after` is the packet, and behind it what was there before; and it is accepted
 pub record Accepted (h : SpacePacketHeader) (x : PusTcSecondaryHeader) (d before : List ℕ) (r : SizeResult) (after : List ℕ) : Type 0 where

@@ -1,13 +1,13 @@
 // What the customer asks of the strict verdict, as theorems: specs/Rules.antt has the words, proofs/Demand3.antt the theorems.
 //
-// Theorem 4 is also proved here of the calls themselves: each function below writes a packet, in either checksum form, and has
-// the buffer judged. They are there for their contracts, and nothing calls them.
+// Theorems 1, 2, 4 and 5 are also proved here of the calls themselves: the functions below write packets, in either checksum form,
+// and have octets judged. They are there for their contracts, and nothing calls them.
 ghost use mathlib.Core.Path.{_≡_};
 ghost use mathlib.Core.Bool.{true};
 ghost use lib.ListN.{length};
 ghost use Rattle.space_packet.specs.Wrote.{Wrote};
 ghost use Rattle.reserve.specs.Reserve.{finishIn, finished};
-ghost use Rattle.demand3.specs.Rules.{Rules, Handed, headerFor, Fits, WrittenBy, Accepts};
+ghost use Rattle.demand3.specs.Rules.{Rules, Handed, headerFor, Fits, WrittenBy, Accepts, Exact, RefusesChanged};
 use ecss_tc::PusTcBuilder;
 use ecss_tc::PusTcCreator;
 use ecss_tc::PusTcCreatorResult;
@@ -17,6 +17,16 @@ use strict::Verdict;
 use tc_header::PusTcSecondaryHeader;
 use tc_reserved::PusTcCreatorWithReservedAppData;
 use tc_reserved::ReservedResult;
+
+// ---- theorems 1 and 2: octets are judged
+
+fn judged(octets: &[u8]) -> Verdict
+    ensures { λ v. ⌜ Exact v (now (octets .entry)) ⌝ }
+{
+    strict::judge(octets)
+}
+
+// ---- theorem 4: a packet is written, and judged
 
 fn write(creator: PusTcCreator, app_data: &[u8], buf: &mut [u8], table: bool) -> SizeResult
     ensures { λ r. ⌜ WrittenBy creator (now («app_data» .entry)) (now (buf .entry)) r (now (buf .exit)) ⌝ }
@@ -81,5 +91,23 @@ fn reserved(
             finish(held, buf, table);
             strict::judge(buf)
         }
+    }
+}
+
+// ---- theorem 5: octets are judged, and so are the same with bits of them changed
+
+struct Verdicts {
+    sent: Verdict,
+    received: Verdict,
+}
+
+fn changed(sent: &[u8], received: &[u8]) -> Verdicts
+    ensures { λ r. ⌜ RefusesChanged (r .sent) (now (sent .entry)) (r .received) (now (received .entry)) ⌝ }
+{
+    let first = strict::judge(sent);
+    let second = strict::judge(received);
+    Verdicts {
+        sent: first,
+        received: second,
     }
 }
