@@ -1,5 +1,6 @@
 // A packet whose headers stand in a buffer and whose data is filled in there: a reservation by value, the buffer lent again
-// to each call. Each call takes the size of the secondary header, and answers 8, then 1.
+// to each call. Each call takes the size of the secondary header. A reservation that does not hold together is 8; then, where a
+// buffer is lent, 1.
 ghost use mathlib.Core.Path.{_≡_};
 ghost use Prim.Native.Nat.{_+_};
 ghost use lib.ListN.{length};

@@ -24,7 +24,8 @@ use space_packet::CheckResult;
 use space_packet::SizeResult;
 use space_packet::SpHeader;
 
-// A reservation by value; the buffer is lent again to each call. Each but the first and len_written answers 8, then 1.
+// A reservation by value; the buffer is lent again to each call. Finishing and borrowing are refused with 8, then 1, and the
+// data's length with 8 alone.
 pub struct PusTcCreatorWithReservedAppData(Reservation);
 
 pub enum ReservedResult {
