@@ -16,10 +16,10 @@ P5 = bytes.fromhex("1923C00500062F11010000616D")
 P6 = P5[:-1] + b"\x6c"
 
 
-def packet(data=b"", first=0x19, octet_6=0x2F, service=17, subtype=1, apid=0x23):
+def packet(data=b"", first=0x19, octet_6=0x2F, service=17, subtype=1, apid=0x23, sequence=0xC005, source=0):
     """A packet with its length and its checksum, whatever its other bits."""
-    head = bytes([first, apid, 0xC0, 5]) + model.be16(11 + len(data) + 2 - 7)
-    content = head + bytes([octet_6, service, subtype, 0, 0]) + data
+    head = bytes([first, apid]) + model.be16(sequence) + model.be16(11 + len(data) + 2 - 7)
+    content = head + bytes([octet_6, service, subtype]) + model.be16(source) + data
     return content + model.be16(model.crc(content))
 
 
@@ -45,6 +45,18 @@ def report(capture):
     return lines
 
 
+# A packet for each refusal of the strict verdict, by the name of what is wrong.
+REFUSED = {
+    "length_below_headers": bytes.fromhex("1923C005000300000000"),
+    "no_room_for_checksum": bytes.fromhex("1923C00500042F11010000"),
+    "checksum": P6,
+    "packet_version_1": packet(first=0x39),
+    "telemetry": packet(first=0x09),
+    "no_secondary_header": packet(first=0x11),
+    "version_1": packet(octet_6=0x1F),
+}
+
+
 def captures():
     chance = random.Random(5)
     full = packet(bytes(chance.randrange(256) for _ in range(65536 - 13)))
@@ -54,17 +66,19 @@ def captures():
     yield "largest", full[:65536]
     yield "exactly", P5 * 5041 + P5[:3]
     yield "over", (P5 * 5042)[:65537]
-    yield "length_below_headers", bytes.fromhex("1923C005000300000000")
-    yield "no_room_for_checksum", bytes.fromhex("1923C00500042F11010000")
-    yield "version_1", packet(octet_6=0x1F)
-    yield "checksum", P6
-    yield "packet_version_1", packet(first=0x39)
-    yield "telemetry", packet(first=0x09)
-    yield "no_secondary_header", packet(first=0x11)
+    for name, refused in REFUSED.items():
+        yield name, refused + P5 + refused
+    yield "every_refusal", b"".join(refused + P5 for refused in REFUSED.values()) + b"".join(REFUSED.values()) + P5 * 2
     yield "two_faults", packet(first=0x29, octet_6=0x1F) + packet(first=0x01, octet_6=0x0F)
     yield "idle_apid", packet(first=0x1F, apid=0xFF)
+    yield "every_subtype", b"".join(packet(service=255 - n, subtype=n) for n in range(256))
+    yield "every_acknowledgement", b"".join(packet(octet_6=0x20 + n) for n in range(16))
+    yield "sequence_control", b"".join(
+        packet(sequence=flags * 16384 + count) for flags in range(4) for count in (0, 1, 255, 256, 16383)
+    )
+    yield "source_ids", b"".join(packet(source=source, service=source % 256) for source in range(0, 65536, 771))
     yield "many", b"".join(
-        packet(bytes(chance.randrange(256) for _ in range(n % 23)), service=n % 256, subtype=n % 7) for n in range(400)
+        packet(bytes(chance.randrange(256) for _ in range(n % 23)), service=n % 256, subtype=n % 251) for n in range(400)
     )
     yield "random", bytes(chance.randrange(256) for _ in range(3000))
     yield "random_short_lengths", b"".join(

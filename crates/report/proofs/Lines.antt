@@ -6,9 +6,21 @@ use native.Mathlib.Omega.{arith}
 use lib.ListN.{length}
 use Rattle.text.specs.Page.{Page, laid}
 use Rattle.text.proofs.Pages.{and-then}
-use Rattle.strict.specs.Split.{Piece, Next, end, piece, lengthOf, stepOf, continue, walkFrom}
+use Rattle.strict.specs.Split.{Piece, Next, end, piece, lengthOf, stepAnswer, stepOf, continue, walkFrom}
+use Rattle.strict.specs.declared.split.Step.{Step}
+use Rattle.strict.specs.declared.split.Step.the-variants as S
 use Rattle.strict.proofs.Pieces.{step-end, step-is, ended-is}
-use Rattle.report.specs.Report.{lineOf, linesOf, stepText, nextFrom}
+use Rattle.report.specs.Report.{lineOf, linesOf, stepText, behind}
+
+-- where the next piece begins, by the definition of the walk
+abbrev nextFrom : Next → ℕ → ℕ
+nextFrom end last = last
+nextFrom (piece p next) last = next
+
+behind-next : (step : Step) (last : ℕ) → behind step last ≡ nextFrom (stepAnswer step) last
+behind-next (S.Packet at n v next) last = refl
+behind-next (S.Tail at n next) last = refl
+behind-next S.End last = refl
 
 -- from the capture's end on there is no piece
 pub none-left : (turns : ℕ) (s : List ℕ) (at : ℕ) → length s ≤ at → walkFrom turns s at ≡ []
@@ -54,10 +66,11 @@ on-turns (suc turns) s t from last p q x h e enough kept w =
     (ap (λ (y : Next). laid p (linesOf (continue y (walkFrom turns s)))) e ∙ kept) w
 
 -- a step lays its piece's line, and goes on behind the piece
-pub on : (s : List ℕ) (t : Page) (from next last : ℕ) (p q : Page) (x : Next) → Left s t from p → from < length s → x ≡ stepOf s from
-    → q ≡ laid p (stepText x) → next ≡ nextFrom x last → On s t from next q
+pub on : (s : List ℕ) (t : Page) (from next last : ℕ) (p q : Page) (x : Step) → Left s t from p → from < length s
+    → stepAnswer x ≡ stepOf s from → q ≡ laid p (stepText (stepAnswer x)) → next ≡ behind x last → On s t from next q
 on s t from next last p q x k h e w n =
-    subst (λ (m : ℕ). On s t from m q) (sym n) (on-turns (k .turns) s t from last p q x h e (k .enough) (k .kept) w)
+    subst (λ (m : ℕ). On s t from m q) (sym (n ∙ behind-next x last))
+    (on-turns (k .turns) s t from last p q (stepAnswer x) h e (k .enough) (k .kept) w)
 
 pub done : (s : List ℕ) (t : Page) (from : ℕ) (p : Page) → Left s t from p → length s ≤ from → p ≡ t
 unfolding linesOf laid

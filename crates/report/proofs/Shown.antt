@@ -1,20 +1,37 @@
--- A text that is laid down from a buffer's start on is what stands there, if it has room.
+-- A text that stands at the start of a buffer with room for it: what is counted, and what is read back.
 use Prim.Native.Nat.{ℕ, _≤_}
 use mathlib.Core.Path.{_≡_, sym, ap, _∙_, subst}
 use mathlib.Core.List.{List}
 use native.Mathlib.Omega.{arith}
-use lib.ListN.{length, take, drop}
-use lib.Seq.{length-take-le, take-append-seam}
+use lib.ListN.{length, take, drop, length-append}
+use lib.Seq.{length-take-le, take-append-seam, take-all}
 use Rattle.io.specs.Counts.{Counts}
-use Rattle.text.specs.Page.{Page, page, laid}
-use Rattle.text.proofs.Pages.{laid-inside, laid-room}
+use Rattle.text.specs.Page.{Page, page, laid, front}
+use Rattle.text.proofs.Pages.{laid-room}
+use Rattle.report.specs.Report.{reportText, Rendered, room}
 
-module _ (t before after : List ℕ) (r : ℕ) (e : page after r ≡ laid (page before 0) t) where
-  pub shown-counts : Counts r after
-  shown-counts =
-      let i : r ≤ length after = subst (λ (p : Page). p .place ≤ length (p .octets)) (sym e) (laid-inside (page before 0) t (omega arith)) in
-      (i, sym (length-take-le r after i))
+shown-counts : (t before after : List ℕ) (n : ℕ) → page after n ≡ front before t → Counts n after
+shown-counts t before after n e =
+    let i : n ≤ length after = subst (λ (p : Page). p .place ≤ length (p .octets)) (sym e) (simp length-append (omega arith)) in
+    (i, sym (length-take-le n after i))
 
-  pub shown-whole : length t ≤ length before → take r after ≡ t
-  shown-whole h =
-      ap (λ (p : Page). take (p .place) (p .octets)) (e ∙ laid-room t before h) ∙ take-append-seam t (drop (length t) before)
+shown-text : (t before after : List ℕ) (n : ℕ) → page after n ≡ front before t → take n after ≡ t
+shown-text t before after n e =
+    ap (λ (p : Page). take (p .place) (p .octets)) e ∙ take-append-seam t (drop (length t) before)
+
+module _ (t before after : List ℕ) (n : ℕ) (e : page after n ≡ laid (page before 0) t) (h : length t ≤ length before) where
+  pub laid-counts : Counts n after
+  laid-counts = shown-counts t before after n (e ∙ laid-room t before h)
+
+  pub laid-text : take n after ≡ t
+  laid-text = shown-text t before after n (e ∙ laid-room t before h)
+
+module _ {capture before after : List ℕ} {n : ℕ} (k : Rendered capture before after n) (h : room ≤ length before) where
+  all : page after n ≡ front before (reportText capture)
+  all = k .shown ∙ ap (front before) (take-all (length before) (reportText capture) (omega (arith, k .whole)))
+
+  pub rendered-counts : Counts n after
+  rendered-counts = shown-counts (reportText capture) before after n all
+
+  pub rendered-text : take n after ≡ reportText capture
+  rendered-text = shown-text (reportText capture) before after n all

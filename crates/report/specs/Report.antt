@@ -1,19 +1,18 @@
 -- The report of tcverdict, to the last character.
-use Prim.Native.Nat.{ℕ, _≤_, _<_, min}
+use Prim.Native.Nat.{ℕ, _+_, _*_, _≤_}
+use mathlib.Core.Path.{_≡_}
 use mathlib.Core.List.{List, [], _∷_, _++_}
 use lib.ListN.{length, take}
-use lib.Dec.{eqb, ltb}
-use lib.IntN.{ℤ, pos, negsuc}
+use lib.Dec.{ltb}
 use Rattle.text.specs.Ascii.{ascii}
 use Rattle.text.specs.Digits.{decimal}
+use Rattle.text.specs.Page.{page, front}
 use Rattle.space_packet.specs.Answer.{Answer, gives, refuses}
 use Rattle.space_packet.specs.Bits.{pick}
 use Rattle.tc_read.specs.declared.PusTcRecord.{PusTcRecord}
 use Rattle.strict.specs.Split.{Piece, packet, tail, Next, end, piece, walk}
-use Rattle.report.specs.declared.Got.{Got}
-use Rattle.report.specs.declared.Got.the-variants as G
-use Rattle.report.specs.declared.Input.{Input}
-use Rattle.report.specs.declared.Input.the-variants.{Octets, Failed}
+use Rattle.strict.specs.declared.split.Step.{Step}
+use Rattle.strict.specs.declared.split.Step.the-variants as S
 
 -- two numbers, and a space between them
 unfoldable pub twoText : ℕ → ℕ → List ℕ
@@ -30,11 +29,12 @@ unfoldable pub lineOf : Piece → List ℕ
 lineOf (packet at n v) = twoText at n ++ verdictText v ++ ascii "\n"
 lineOf (tail at n) = twoText at n ++ ascii " tail\n"
 
+-- a line for each piece; the splitter gives no empty tail, so that has no line
 unfoldable pub linesOf : List Piece → List ℕ
 linesOf [] = []
 linesOf (p ∷ ps) = lineOf p ++ linesOf ps
 
--- a line for each piece, and the capture's length; a capture of more than 65,536 octets is too long
+-- the lines, and the capture's length at the end; of more than 65,536 octets, that they are too long
 unfoldable pub bodyText : List ℕ → List ℕ
 bodyText capture =
     pick (ltb 65536 (length capture)) (ascii "too long\n")
@@ -43,44 +43,26 @@ bodyText capture =
 unfoldable pub reportText : List ℕ → List ℕ
 reportText capture = ascii "tcverdict 1\n" ++ bodyText capture
 
--- ---- one step, and the whole program
+-- room for every report: the first line has 12 characters and the last 10 at most; a packet's line has 27 at most, which is no
+-- more than 4 for each of its 7 octets or more; a tail's has 17 at most, which is 13 more than 4 for an octet
+abbrev pub room : ℕ
+room = 12 + 4 * 65536 + 13 + 10
+
+-- what putting a report at the start of the buffer `before` answers and leaves
+pub record Rendered (capture before after : List ℕ) (n : ℕ) : Type 0 where
+  -- as much of the report as there is room for, and its length; behind it what was there
+  pub shown : page after n ≡ front before (take (length before) (reportText capture))
+  -- which is all of it where there are `room` octets
+  pub whole : length (reportText capture) ≤ room
+
+-- ---- one step
 
 unfoldable pub stepText : Next → List ℕ
 stepText end = []
 stepText (piece p next) = lineOf p
 
--- where the next piece begins: at the end after the last
-abbrev pub nextFrom : Next → ℕ → ℕ
-nextFrom end last = last
-nextFrom (piece p next) last = next
-
--- what a read into so many octets came to, by its own answer
-unfoldable pub gotOf : ℤ → ℕ → Got
-gotOf (negsuc k) most = G.Failed
-gotOf (pos k) most = pick (eqb (min k most) 0) G.End (G.More (min k most))
-
--- octets that came are one or more, and no more than there is room for
-abbrev pub Fit : Got → ℕ → Type 0
-Fit (G.More n) most = (0 < n) × (n ≤ most)
-Fit G.End most = Unit {0}
-Fit G.Failed most = Unit {0}
-
--- what n octets and the last read came to
-abbrev pub endedOf : Got → ℕ → Input
-endedOf G.Failed n = Failed
-endedOf G.End n = Octets n
-endedOf (G.More m) n = Octets n
-
--- no more octets were read than there is room for
-abbrev pub Within : Input → ℕ → Type 0
-Within (Octets n) most = n ≤ most
-Within Failed most = Unit {0}
-
--- what is printed of an input: the report of the octets that were read, or that they cannot be read
-unfoldable pub printed : Input → List ℕ → List ℕ
-printed (Octets n) l = reportText (take n l)
-printed Failed l = ascii "tcverdict 1\ncannot be read\n"
-
--- room for every report
-abbrev pub room : ℕ
-room = 262179
+-- where the next piece begins
+abbrev pub behind : Step → ℕ → ℕ
+behind (S.Packet at n v next) last = next .at
+behind (S.Tail at n next) last = next .at
+behind S.End last = last

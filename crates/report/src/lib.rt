@@ -6,7 +6,9 @@ ghost use Rattle.io.specs.Counts.{Counts};
 ghost use Rattle.text.specs.Page.{page, laid};
 ghost use Rattle.strict.specs.Verdict.{verdictAnswer};
 ghost use Rattle.strict.specs.Split.{stepAnswer, walk};
-ghost use Rattle.report.specs.Report.{twoText, verdictText, stepText, nextFrom, linesOf, bodyText, reportText, gotOf, Fit, endedOf, Within, printed, room};
+ghost use Rattle.report.specs.Report.{twoText, verdictText, stepText, behind, linesOf, bodyText, Rendered, room};
+ghost use Rattle.report.specs.Program.{inputOf, Within, printed};
+use libc::EINTR;
 use libc::STDOUT_FILENO;
 use strict::Verdict;
 use strict::split::Cursor;
@@ -65,17 +67,24 @@ fn put_step(out: &mut [u8], at: usize, step: Step) -> usize
     }
 }
 
+// Where the walk goes on behind a packet: at the next octet, whatever the verdict.
+fn onward(verdict: Verdict, next: Cursor) -> usize
+    ensures { λ r. ⌜ r ≡ next .at ⌝ }
+{
+    next.at
+}
+
 // Where the step after this one begins: `last` after the last.
 fn after(step: Step, last: usize) -> usize
-    ensures { λ r. ⌜ r ≡ nextFrom (stepAnswer step) last ⌝ }
+    ensures { λ r. ⌜ r ≡ behind step last ⌝ }
 {
     match step {
         Step::Packet {
             at: _,
             total: _,
-            verdict: _,
+            verdict,
             next,
-        } => next.at,
+        } => onward(verdict, next),
         Step::Tail {
             at: _,
             len: _,
@@ -114,62 +123,61 @@ fn put_body(out: &mut [u8], at: usize, capture: &[u8]) -> usize
 
 // Puts the report of a capture at the start of out, and answers how many characters it has; what has no room is left out.
 pub fn render(capture: &[u8], out: &mut [u8]) -> usize
-    ensures { λ r. ⌜ page (now (out .exit)) r ≡ laid (page (now (out .entry)) 0) (reportText (now (capture .entry))) ⌝ }
-    ensures { λ r. ⌜ Counts r (now (out .exit)) ⌝ }
-    ensures { λ r. ⌜ (room ≤ length (now (out .entry)) → take r (now (out .exit)) ≡ reportText (now (capture .entry))) ⌝ }
+    ensures { λ r. ⌜ Rendered (now (capture .entry)) (now (out .entry)) (now (out .exit)) r ⌝ }
 {
     let n = text::put_text(out, 0, b"tcverdict 1\n");
     put_body(out, n, capture)
 }
 
-// ---- the program
+// ---- what is read
 
-// Room for every report.
-const ROOM: usize = 262179;
-
-// What one read came to, by its own answer: it failed, the input has ended, or so many octets came.
-enum Got {
-    Failed,
-    End,
-    More(usize),
-}
-
-// What reading an input to its end came to: how many octets it gave, or that a read failed.
+// What reading came to: so many octets, none at the end of the input, or that it failed.
 enum Input {
     Octets(usize),
     Failed,
 }
 
-// What a read into `space` came to. A failed read is known by its own answer only: a read after it may find the end.
-fn heard(answer: isize, space: &[u8]) -> Got
-    ensures { λ r. ⌜ r ≡ gotOf answer (length (now (space .entry))) ⌝ }
+// What the system's answer to a read says. It alone tells of a failure: a read after a failed one may find the end.
+fn told(answer: isize) -> Input
+    ensures { λ r. ⌜ r ≡ inputOf answer ⌝ }
 {
     if answer < 0 {
-        return Got::Failed;
+        return Input::Failed;
     }
-    let n = io::count(answer, space);
-    if n == 0 {
-        return Got::End;
-    }
-    Got::More(n)
+    Input::Octets(answer as usize)
 }
 
-fn read_once(fd: i32, space: &mut [u8]) -> Got
-    ensures { λ r. ⌜ Fit r (length (now (space .entry))) ⌝ }
+fn read_once(fd: i32, space: &mut [u8]) -> Input
+    ensures { λ r. ⌜ Within r (length (now (space .entry))) ⌝ }
 {
     let answer = libc::read(fd, space);
-    heard(answer, space)
+    told(answer)
 }
 
-// What n octets and the last read came to.
-fn ended(last: Got, n: usize) -> Input
-    ensures { λ r. ⌜ r ≡ endedOf last n ⌝ }
-{
-    match last {
-        Got::Failed => Input::Failed,
-        Got::End => Input::Octets(n),
-        Got::More(_) => Input::Octets(n),
+// Whether a signal interrupted the read that was just made.
+fn interrupted(got: Input) -> bool {
+    match got {
+        Input::Octets(_) => false,
+        Input::Failed => os::errno() == EINTR,
     }
+}
+
+// How often in a row a read is tried that signals interrupt.
+const TRIES: usize = 1000;
+
+// Reads some octets, and tries again where a signal interrupted it.
+fn read_some(fd: i32, space: &mut [u8]) -> Input
+    ensures { λ r. ⌜ Within r (length (now (space .entry))) ⌝ }
+{
+    let mut tries: usize = 1;
+    while tries < TRIES {
+        let got = read_once(fd, space);
+        if !interrupted(got) {
+            return got;
+        }
+        tries += 1;
+    }
+    read_once(fd, space)
 }
 
 // Reads until the input ends, buf is full or a read fails.
@@ -178,14 +186,22 @@ fn read_input(fd: i32, buf: &mut [u8]) -> Input
 {
     let mut n: usize = 0;
     while n < buf.len() {
-        let got = read_once(fd, &mut buf[n..]);
-        let Got::More(more) = got else {
-            return ended(got, n);
+        let got = read_some(fd, &mut buf[n..]);
+        let Input::Octets(more) = got else {
+            return got;
         };
+        if more == 0 {
+            return Input::Octets(n);
+        }
         n += more;
     }
     Input::Octets(n)
 }
+
+// ---- what is printed
+
+// Room for every report, as `room` has it.
+const ROOM: usize = 12 + 4 * 65536 + 13 + 10;
 
 // Puts what is printed of an input at the start of out, and answers how many characters it has.
 fn answer(input: Input, buf: &[u8], out: &mut [u8]) -> usize
@@ -199,7 +215,7 @@ fn answer(input: Input, buf: &[u8], out: &mut [u8]) -> usize
     }
 }
 
-// Writes what is printed of an input.
+// Writes what is printed of an input, and no other text.
 fn print(input: Input, buf: &[u8], shown: &[u8])
     requires { ⌜ now shown ≡ printed input (now buf) ⌝ }
 {

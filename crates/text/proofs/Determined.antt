@@ -47,7 +47,7 @@ Lays d = (x y : ℕ) (l m : List ℕ) → page l x ≡ d → page m y ≡ d → 
 same-page : (x y : ℕ) (l m : List ℕ) → page l x ≡ page m y → (x ≡ y) × (l ≡ m)
 same-page x y l m e = (ap (λ (p : Page). p .place) e, ap (λ (p : Page). p .octets) e)
 
-lays : (d : Page) → Lays d
+pub lays : (d : Page) → Lays d
 lays d x y l m p q = same-page x y l m (p ∙ sym q)
 
 pub put : (before : List ℕ) (at b : ℕ) → Lays (placed (page before at) b)

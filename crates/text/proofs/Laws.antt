@@ -1,17 +1,18 @@
 -- A text taken one character at a time, and its parts.
-use Prim.Native.Nat.{ℕ, zero, suc, _+_, _-_, _≤_, _<_}
+use Prim.Native.Nat.{ℕ, zero, suc, _+_, _-_, _/_, _≤_, _<_}
 use mathlib.Core.Path.{_≡_, refl, sym, ap, _∙_}
-use mathlib.Core.Bool.{Bool, true, false}
+use mathlib.Core.Bool.{Bool, true, false, true≢false}
 use mathlib.Core.List.{List, [], _∷_}
+use native.Mathlib.Nat.{lt-of-not-le, le-of-suc-le-suc}
 use native.Mathlib.Omega.{arith}
 use native.Mathlib.Numerals.{add-one}
 use borrow.Author.Tests.{lt-ltb, le-ltb}
 use lib.Dec.{eqb}
-use lib.ListN.{length, getD, take, drop, set, drop-of-length-le, length-drop}
+use lib.ListN.{length, getD, take, drop, drop-of-length-le, length-drop}
 use lib.Seq.{drop-cons, drop-drop, take-nil, take-all}
 use Rattle.text.specs.Pieces.{pick, gap, one, countOf, pieceOf}
-use Rattle.text.specs.Digits.{pairValue, pairOf}
-use Rattle.text.specs.Page.{Page, page, placed, Octets, none, decoded}
+use Rattle.text.specs.Digits.{pairValue, pairOf, arePairs, pairOctets}
+use Rattle.text.specs.Page.{Page, placed, laid}
 
 pub next : (s : List ℕ) (i : ℕ) → i < length s → drop i s ≡ getD s i 0 ∷ drop (i + 1) s
 next s i h = rw add-one (drop-cons s i 0 h)
@@ -100,41 +101,72 @@ module _ (s : List ℕ) (at : ℕ) where
   pub pair-full : at + 1 < length s → pairValue (getD s at 0) (getD s (at + 1) 0) ≡ pairOf (drop at s)
   pair-full h = rw (next s at (omega arith), next s (at + 1) h) refl
 
--- ---- octets read
+-- ---- pairs of digits, one pair after the other
 
-placed-room : (l : List ℕ) (n b : ℕ) → n < length l → page (set l n b) (n + 1) ≡ placed (page l n) b
-unfolding placed
-placed-room l n b h = simp (lt-ltb _ _ h)
+pairs-on : (l : List ℕ) → pairOf l ≤ 255 → arePairs l ≡ arePairs (drop 2 l)
+unfolding arePairs
+pairs-on [] h = absurd (omega arith)
+pairs-on (x ∷ []) h = absurd (omega arith)
+pairs-on (x ∷ y ∷ l) h = simp (le-ltb _ _ h)
 
-decoded-none : (p : Page) (l : List ℕ) → 0 < length l → 255 < pairOf l → decoded p l ≡ none p
-unfolding decoded
-decoded-none p [] h k = absurd (omega arith)
-decoded-none p (x ∷ []) h k = refl
-decoded-none p (x ∷ y ∷ l) h k = simp (lt-ltb _ _ k)
+pairs-off : (l : List ℕ) → 0 < length l → 255 < pairOf l → arePairs l ≡ false
+unfolding arePairs
+pairs-off [] n h = absurd (omega arith)
+pairs-off (x ∷ []) n h = refl
+pairs-off (x ∷ y ∷ l) n h = simp (lt-ltb _ _ h)
 
-decoded-full : (p : Page) (l : List ℕ) → pairOf l ≤ 255 → length (p .octets) ≤ p .place → decoded p l ≡ none p
-unfolding decoded
-decoded-full p [] k h = absurd (omega arith)
-decoded-full p (x ∷ []) k h = absurd (omega arith)
-decoded-full p (x ∷ y ∷ l) k h = simp (le-ltb _ _ k, le-ltb _ _ h)
+-- the first of them is an octet
+pairs-first : (l : List ℕ) → 0 < length l → arePairs l ≡ true → pairOf l ≤ 255
+pairs-first l n e = le-of-suc-le-suc (lt-of-not-le (λ h. true≢false (sym e ∙ pairs-off l n h)))
 
-decoded-next : (p : Page) (l : List ℕ) → pairOf l ≤ 255 → p .place < length (p .octets) → decoded p l ≡ decoded (placed p (pairOf l)) (drop 2 l)
-unfolding decoded
-decoded-next p [] k h = absurd (omega arith)
-decoded-next p (x ∷ []) k h = absurd (omega arith)
-decoded-next p (x ∷ y ∷ l) k h = simp (le-ltb _ _ k, lt-ltb _ _ h)
+pair-octets : (l : List ℕ) → pairOf l ≤ 255 → pairOctets l ≡ pairOf l ∷ pairOctets (drop 2 l)
+unfolding pairOctets
+pair-octets [] h = absurd (omega arith)
+pair-octets (x ∷ []) h = absurd (omega arith)
+pair-octets (x ∷ y ∷ l) h = refl
 
-module _ {s l : List ℕ} {t : Octets} {i n : ℕ} (k : Kept decoded s t i (page l n)) where
-  pub decode-none : i < length s → 255 < pairOf (drop i s) → none (page l n) ≡ t
-  decode-none h z = sym (decoded-none (page l n) (drop i s) (simp length-drop (omega arith)) z) ∙ k .kept
+pub pair-octets-length : (l : List ℕ) → length (pairOctets l) ≤ length l / 2
+unfolding pairOctets
+pair-octets-length [] = omega arith
+pair-octets-length (x ∷ []) = omega arith
+pair-octets-length (x ∷ y ∷ l) = omega (arith, pair-octets-length l)
 
-  pub decode-full : pairOf (drop i s) ≤ 255 → length l ≤ n → none (page l n) ≡ t
-  decode-full z h = sym (decoded-full (page l n) (drop i s) z h) ∙ k .kept
+-- t is whether what is left from i on is pairs
+pub record Paired (s : List ℕ) (t : Bool) (i : ℕ) : Type 0 where
+  pub paired : arePairs (drop i s) ≡ t
 
-  pub decode-on : {b : ℕ} → b ≡ pairOf (drop i s) → b ≤ 255 → n < length l → Kept decoded s t (i + 2) (page (set l n b) (n + 1))
-  decode-on {b} e z h =
+module _ {s : List ℕ} {t : Bool} {i : ℕ} (k : Paired s t i) where
+  pub pairs-again : pairOf (drop i s) ≤ 255 → Paired s t (i + 2)
+  pairs-again h = record { paired = ap arePairs (sym (drop-drop 2 i s)) ∙ sym (pairs-on (drop i s) h) ∙ k .paired }
+
+  pub pairs-no : i < length s → 255 < pairOf (drop i s) → false ≡ t
+  pairs-no h z = sym (pairs-off (drop i s) (simp length-drop (omega arith)) z) ∙ k .paired
+
+  pub pairs-yes : length s ≤ i → true ≡ t
+  unfolding arePairs
+  pairs-yes h = sym (ap arePairs (drop-of-length-le s h)) ∙ k .paired
+
+-- the octets of the pairs before i are laid into p, and those that are left make it t
+pub record Pairs (s : List ℕ) (t : Page) (i : ℕ) (p : Page) : Type 0 where
+  pub good : Paired s true i
+  pub kept : laid p (pairOctets (drop i s)) ≡ t
+
+module _ {s : List ℕ} {t : Page} {i : ℕ} {p : Page} (k : Pairs s t i p) where
+  pub pair-octet : i < length s → pairOf (drop i s) ≤ 255
+  pair-octet h = pairs-first (drop i s) (simp length-drop (omega arith)) (k .good .paired)
+
+  pub pair-laid : {q : Page} → i < length s → q ≡ placed p (pairOf (drop i s)) → Pairs s t (i + 2) q
+  unfolding laid
+  pair-laid {q} h e =
       record {
+        good = pairs-again (k .good) (pair-octet h);
         kept =
-            rw (placed-room l n b h, e, ← drop-drop 2 i s)
-            (sym (decoded-next (page l n) (drop i s) (omega arith) h) ∙ k .kept);
+            ap (λ (l : List ℕ). laid q (pairOctets l)) (sym (drop-drop 2 i s))
+            ∙ ap (λ (x : Page). laid x (pairOctets (drop 2 (drop i s)))) e
+            ∙ sym (ap (laid p) (pair-octets (drop i s) (pair-octet h)))
+            ∙ k .kept;
       }
+
+  pub pair-end : length s ≤ i → p ≡ t
+  unfolding laid pairOctets
+  pair-end h = sym (ap (λ (l : List ℕ). laid p (pairOctets l)) (drop-of-length-le s h)) ∙ k .kept

@@ -1,5 +1,6 @@
 -- Numbers and octets as text.
 use Prim.Native.Nat.{ℕ, zero, suc, _+_, _*_, _-_, _/_, _%_}
+use mathlib.Core.Bool.{Bool, true, false}
 use mathlib.Core.List.{List, [], _∷_, _++_}
 use lib.Dec.{eqb, ltb}
 use lib.ListN.{length, drop}
@@ -33,6 +34,18 @@ abbrev pub pairOf : List ℕ → ℕ
 pairOf [] = 256
 pairOf (x ∷ []) = 256
 pairOf (x ∷ y ∷ l) = pairValue x y
+
+-- whether a text is pairs of digits to its end
+unfoldable pub arePairs : List ℕ → Bool
+arePairs [] = true
+arePairs (x ∷ []) = false
+arePairs (x ∷ y ∷ l) = pick (ltb 255 (pairValue x y)) false (arePairs l)
+
+-- the octets of its pairs
+unfoldable pub pairOctets : List ℕ → List ℕ
+pairOctets [] = []
+pairOctets (x ∷ []) = []
+pairOctets (x ∷ y ∷ l) = pairValue x y ∷ pairOctets l
 
 -- ---- decimals
 

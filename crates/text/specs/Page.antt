@@ -1,10 +1,10 @@
 -- A buffer that is filled from a place on.
-use Prim.Native.Nat.{ℕ, _+_}
-use mathlib.Core.List.{List, [], _∷_}
+use Prim.Native.Nat.{ℕ, _+_, _/_}
+use mathlib.Core.List.{List, [], _∷_, _++_}
 use lib.Dec.{eqb, ltb}
-use lib.ListN.{length, getD, set}
+use lib.ListN.{length, getD, drop, set}
 use Rattle.text.specs.Pieces.{pick}
-use Rattle.text.specs.Digits.{pairValue}
+use Rattle.text.specs.Digits.{arePairs, pairOctets}
 use Rattle.text.specs.declared.Value.{Value}
 use Rattle.text.specs.declared.Value.the-variants.{Is, Bad}
 
@@ -24,6 +24,10 @@ unfoldable pub laid : Page → List ℕ → Page
 laid p [] = p
 laid p (b ∷ l) = laid (placed p b) l
 
+-- a text at the start of a buffer that has room for it; behind it what was there
+abbrev pub front : List ℕ → List ℕ → Page
+front before t = page (t ++ drop (length t) before) (length t)
+
 -- ---- octets read into a buffer
 
 -- how many were read, or that the text is none, and the buffer
@@ -34,21 +38,14 @@ pub record Octets : Type 0 where
 abbrev pub read : Value → List ℕ → Octets
 read v l = record { value = v; left = l }
 
-abbrev pub none : Page → Octets
-none p = read Bad (p .octets)
+abbrev pub filled : Page → Octets
+filled p = read (Is (p .place)) (p .octets)
 
--- pairs of digits to the end of the text; an octet past the buffer's end makes it none
-unfoldable pub decoded : Page → List ℕ → Octets
-decoded p [] = read (Is (p .place)) (p .octets)
-decoded p (x ∷ []) = none p
-decoded p (x ∷ y ∷ l) =
-    pick (ltb 255 (pairValue x y)) (none p)
-    (pick (ltb (p .place) (length (p .octets))) (decoded (placed p (pairValue x y)) l) (none p))
-
--- `-` for none, or one or more pairs
+-- `-` for none, or one or more pairs of digits whose octets have room; any other text leaves the buffer as it was
 unfoldable pub octetsOf : List ℕ → List ℕ → Octets
 octetsOf before l =
-    pick (eqb (length l) 0) (none (page before 0))
+    pick (eqb (length l) 0) (read Bad before)
     (pick (eqb (length l) 1)
-    (pick (eqb (getD l 0 0) 45) (read (Is 0) before) (none (page before 0)))
-    (decoded (page before 0) l))
+    (pick (eqb (getD l 0 0) 45) (read (Is 0) before) (read Bad before))
+    (pick (ltb (length before) (length l / 2)) (read Bad before)
+    (pick (arePairs l) (filled (front before (pairOctets l))) (read Bad before))))

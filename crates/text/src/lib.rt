@@ -1,12 +1,13 @@
 // The words of a line protocol: pieces of a line, numbers and octets as text, and a buffer that answers are laid into.
 // No call refuses anything: a place past the end is an empty part, and an octet that has no room is dropped.
 ghost use mathlib.Core.Path.{_≡_};
+ghost use mathlib.Core.Bool.{true};
 ghost use mathlib.Core.List.{[], _∷_, _++_};
 ghost use Prim.Native.Nat.{_+_, _-_, _/_, _%_, _<_};
 ghost use lib.ListN.{length, take, drop};
 ghost use Rattle.text.specs.Pieces.{gap, one, countOf, pieceOf};
-ghost use Rattle.text.specs.Digits.{hexGlyph, hexValue, hexOctet, hexText, pairValue, pairOf, withDigit, decimal, numberFrom, numberOf, wordOf};
-ghost use Rattle.text.specs.Page.{page, placed, laid, read, decoded, octetsOf};
+ghost use Rattle.text.specs.Digits.{hexGlyph, hexValue, hexOctet, hexText, pairValue, pairOf, arePairs, pairOctets, withDigit, decimal, numberFrom, numberOf, wordOf};
+ghost use Rattle.text.specs.Page.{page, placed, laid, read, octetsOf};
 
 // ---- a line and its pieces
 
@@ -213,28 +214,36 @@ pub fn word(s: &[u8]) -> Value
     Value::Is(hi as u64 * 256 + lo as u64)
 }
 
-// Puts the octets of pairs of digits into out.
-fn decode(s: &[u8], out: &mut [u8]) -> Value
-    ensures { λ r. ⌜ read r (now (out .exit)) ≡ decoded (page (now (out .entry)) 0) (now (s .entry)) ⌝ }
+// Whether a text is pairs of digits to its end.
+fn are_pairs(s: &[u8]) -> bool
+    ensures { λ r. ⌜ r ≡ arePairs (now (s .entry)) ⌝ }
+{
+    let mut i = 0;
+    while i < s.len() {
+        if 255 < pair_at(s, i) {
+            return false;
+        }
+        i += 2;
+    }
+    true
+}
+
+// Puts the octets of pairs of digits at the start of out, and answers the place after them.
+fn decode(s: &[u8], out: &mut [u8]) -> usize
+    requires { ⌜ arePairs (now s) ≡ true ⌝ }
+    ensures { λ r. ⌜ page (now (out .exit)) r ≡ laid (page (now (out .entry)) 0) (pairOctets (now (s .entry))) ⌝ }
 {
     let mut n = 0;
     let mut i = 0;
     while i < s.len() {
-        let b = pair_at(s, i);
-        if 255 < b {
-            return Value::Bad;
-        }
-        if out.len() <= n {
-            return Value::Bad;
-        }
-        out[n] = b as u8;
-        n += 1;
+        n = put(out, n, pair_at(s, i) as u8);
         i += 2;
     }
-    Value::Is(n as u64)
+    n
 }
 
-// Puts the octets that a field writes at the start of out, and answers how many; `-` is none.
+// Puts the octets that a field writes at the start of out, and answers how many; `-` is none. A bad field, or one with more
+// octets than out has room for, leaves out as it was.
 pub fn octets(s: &[u8], out: &mut [u8]) -> Value
     ensures { λ r. ⌜ read r (now (out .exit)) ≡ octetsOf (now (out .entry)) (now (s .entry)) ⌝ }
 {
@@ -247,7 +256,13 @@ pub fn octets(s: &[u8], out: &mut [u8]) -> Value
         }
         return Value::Bad;
     }
-    decode(s, out)
+    if out.len() < s.len() / 2 {
+        return Value::Bad;
+    }
+    if are_pairs(s) {
+        return Value::Is(decode(s, out) as u64);
+    }
+    Value::Bad
 }
 
 // ---- answers, laid into a buffer: each call goes on at `at`, and answers the place after what it laid

@@ -2,7 +2,7 @@
 use mathlib.Core.Path.{_∙_}
 use native.Mathlib.Omega.{arith}
 use Rattle.report.proofs.Readings.{printed-octets, printed-failed}
-use Rattle.report.proofs.Shown.{shown-counts, shown-whole}
+use Rattle.report.proofs.Shown.{laid-counts, laid-text, rendered-counts, rendered-text}
 use borrow.Author.Needs.{needs}
 use Rattle.report.proofs.answer.Statement.{statement}
 use Rattle.report.proofs.answer.Tie as tie
@@ -31,7 +31,8 @@ same-length c = search needs
 returns : tie.Need-returns
 returns c =
     let r = c .before .before .render .ensures in
-    (r .1 .0, r .1 .1 (c .before .before .before .before .before .before .before .before .before .before .pre) ∙ printed-octets _ _ _ _ (c .before .before .before .before .before .before .input .given .1) (c .before .before .before .before .part .ensures))
+    let room = c .before .before .before .before .before .before .before .before .before .before .pre in
+    (rendered-counts r room, rendered-text r room ∙ printed-octets _ _ _ _ (c .before .before .before .before .before .before .input .given .1) (c .before .before .before .before .part .ensures))
 
 same-length-2 : tie.Need-same-length-2
 same-length-2 c = search needs
@@ -39,8 +40,8 @@ same-length-2 c = search needs
 returns-2 : tie.Need-returns-2
 returns-2 c =
     let e = c .before .before .put-text .ensures in
-    let h = c .before .before .before .before .before .before .before .before .before .pre in
-    (shown-counts _ _ _ _ e, shown-whole _ _ _ _ e (omega arith) ∙ printed-failed _ _ (c .before .before .before .before .before .enum-told .given .1))
+    let room = c .before .before .before .before .before .before .before .before .before .pre in
+    (laid-counts _ _ _ _ e (omega (arith, room)), laid-text _ _ _ _ e (omega (arith, room)) ∙ printed-failed _ _ (c .before .before .before .before .before .enum-told .given .1))
 
 pub answer-spec : {M : Type 1} → statement M
 answer-spec =

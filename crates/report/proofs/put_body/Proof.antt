@@ -42,8 +42,15 @@ same-length-2 c = search needs
 
 returns-2 : tie.Need-returns-2
 returns-2 c =
-    and-then _ _ _ (and-then _ _ _ (and-then _ _ _ (c .before .before .before .before .before .before .before .before .before .before .before .before .before .before .before .before .put-lines .ensures) (c .before .before .before .before .before .before .before .before .before .before .before .put-text2 .ensures)) (c .before .before .before .before .before .before .before .put-number .ensures)) (c .before .before .put-text3 .ensures)
-    ∙ ap (laid _) (body-whole _ (c .before .before .before .before .before .before .before .before .before .before .before .before .before .before .before .before .before .before .if1 .left))
+    let fourth = c .before .before in
+    let third = fourth .before .before .before .before .before in
+    let second = third .before .before .before .before in
+    let first = second .before .before .before .before .before in
+    let test = first .before .before in
+    and-then _ _ _
+    (and-then _ _ _ (and-then _ _ _ (first .put-lines .ensures) (second .put-text2 .ensures)) (third .put-number .ensures))
+    (fourth .put-text3 .ensures)
+    ∙ ap (laid _) (body-whole _ (test .if1 .left))
 
 pub put-body-spec : {M : Type 1} → statement M
 put-body-spec =

@@ -29,10 +29,21 @@ after-requires : tie.Need-after-requires Inv-loop μ-loop
 after-requires c κs = tt
 
 loop-less : tie.Need-loop-less Inv-loop μ-loop
-loop-less c = let x = on _ _ _ _ _ _ _ _ (c .before .before .before .before .before .before .before .loop .inv .0) (omega arith) (c .before .before .before .before .before .step .ensures) (c .before .before .before .put-step .ensures) (c .after .ensures) .further in omega arith
+loop-less c =
+    let stepped = c .before .before .before .before .before in
+    let loop = stepped .before .before in
+    let last = length (loop .before .before .before .args .capture .now) in
+    let x = on _ _ _ _ last _ _ (stepped .step .result) (loop .loop .inv .0) (omega arith) (stepped .step .ensures) (c .before .before .before .put-step .ensures) (c .after .ensures) in
+    let further = x .further in
+    omega arith
 
 loop-again : tie.Need-loop-again Inv-loop μ-loop
-loop-again c = (on _ _ _ _ _ _ _ _ (c .before .before .before .before .before .before .before .loop .inv .0) (omega arith) (c .before .before .before .before .before .step .ensures) (c .before .before .before .put-step .ensures) (c .after .ensures) .left, omega arith)
+loop-again c =
+    let stepped = c .before .before .before .before .before in
+    let loop = stepped .before .before in
+    let last = length (loop .before .before .before .args .capture .now) in
+    let x = on _ _ _ _ last _ _ (stepped .step .result) (loop .loop .inv .0) (omega arith) (stepped .step .ensures) (c .before .before .before .put-step .ensures) (c .after .ensures) in
+    (x .left, omega arith)
 
 same-length : tie.Need-same-length Inv-loop μ-loop
 same-length c = omega arith

@@ -45,8 +45,12 @@ same-length c = search needs
 returns : tie.Need-returns
 unfolding stepText lineOf
 returns c =
-    and-then _ _ _ (and-then _ _ _ (c .before .before .before .before .before .before .before .before .before .before .before .put-two .ensures) (c .before .before .before .before .before .before .before .put-verdict .ensures)) (c .before .before .put-text .ensures)
-    ∙ ap (laid _) (ap (λ (s : Step). stepText (stepAnswer s)) (sym (c .before .before .before .before .before .before .before .before .before .before .before .before .before .before .step .given .1)))
+    let third = c .before .before in
+    let second = third .before .before .before .before .before in
+    let first = second .before .before .before .before in
+    let arm = first .before .before .before in
+    and-then _ _ _ (and-then _ _ _ (first .put-two .ensures) (second .put-verdict .ensures)) (third .put-text .ensures)
+    ∙ ap (laid _) (ap (λ (s : Step). stepText (stepAnswer s)) (sym (arm .step .given .1)))
 
 same-length-2 : tie.Need-same-length-2
 same-length-2 c = search needs
@@ -54,8 +58,11 @@ same-length-2 c = search needs
 returns-2 : tie.Need-returns-2
 unfolding stepText lineOf
 returns-2 c =
-    and-then _ _ _ (c .before .before .before .before .before .before .before .put-two2 .ensures) (c .before .before .put-text2 .ensures)
-    ∙ ap (laid _) (ap (λ (s : Step). stepText (stepAnswer s)) (sym (c .before .before .before .before .before .before .before .before .before .before .step2 .given .1)))
+    let second = c .before .before in
+    let first = second .before .before .before .before .before in
+    let arm = first .before .before .before in
+    and-then _ _ _ (first .put-two2 .ensures) (second .put-text2 .ensures)
+    ∙ ap (laid _) (ap (λ (s : Step). stepText (stepAnswer s)) (sym (arm .step2 .given .1)))
 
 returns-3 : tie.Need-returns-3
 unfolding stepText laid

@@ -23,7 +23,10 @@ same-length c = search needs
 returns : tie.Need-returns
 unfolding twoText
 returns c =
-    and-then _ _ _ (and-then _ _ _ (c .before .before .before .before .before .before .before .before .before .before .before .put-number .ensures) (c .before .before .before .before .before .before .put-text .ensures)) (c .before .before .put-number2 .ensures)
+    let third = c .before .before in
+    let second = third .before .before .before .before in
+    let first = second .before .before .before .before .before in
+    and-then _ _ _ (and-then _ _ _ (first .put-number .ensures) (second .put-text .ensures)) (third .put-number2 .ensures)
 
 pub put-two-spec : {M : Type 1} → statement M
 put-two-spec =

@@ -61,10 +61,15 @@ same-length c = search needs
 returns : tie.Need-returns
 unfolding verdictText
 returns c =
-    and-then _ _ _ (c .before .before .before .before .before .before .before .before .put-text .ensures) (c .before .before .put-two .ensures)
+    let numbers = c .before .before in
+    let subtype = numbers .before .before in
+    let service = subtype .before in
+    let word = service .before .before .before in
+    let arm = word .before .before .before .before in
+    and-then _ _ _ (word .put-text .ensures) (numbers .put-two .ensures)
     ∙ ap (laid _)
-    (ap₂ (λ (x y : ℕ). ascii " accept " ++ twoText x y) (c .before .before .before .before .before .service-type-id .ensures) (c .before .before .before .before .message-subtype-id .ensures)
-    ∙ ap (λ (v : Verdict). verdictText (verdictAnswer v)) (sym (c .before .before .before .before .before .before .before .before .before .before .before .before .verdict .given .1)))
+    (ap₂ (λ (x y : ℕ). ascii " accept " ++ twoText x y) (service .service-type-id .ensures) (subtype .message-subtype-id .ensures)
+    ∙ ap (λ (v : Verdict). verdictText (verdictAnswer v)) (sym (arm .verdict .given .1)))
 
 same-length-2 : tie.Need-same-length-2
 same-length-2 c = search needs
@@ -72,10 +77,14 @@ same-length-2 c = search needs
 returns-2 : tie.Need-returns-2
 unfolding verdictText
 returns-2 c =
-    and-then _ _ _ (c .before .before .before .before .before .before .before .put-text2 .ensures) (c .before .before .put-number .ensures)
+    let number = c .before .before in
+    let known = number .before in
+    let word = known .before .before .before .before in
+    let arm = word .before .before .before .before in
+    and-then _ _ _ (word .put-text2 .ensures) (number .put-number .ensures)
     ∙ ap (laid _)
-    (ap (λ (x : ℕ). ascii " refuse " ++ decimal x) (c .before .before .before .number .ensures)
-    ∙ ap (λ (v : Verdict). verdictText (verdictAnswer v)) (sym (c .before .before .before .before .before .before .before .before .before .before .before .verdict2 .given .1)))
+    (ap (λ (x : ℕ). ascii " refuse " ++ decimal x) (known .number .ensures)
+    ∙ ap (λ (v : Verdict). verdictText (verdictAnswer v)) (sym (arm .verdict2 .given .1)))
 
 pub put-verdict-spec : {M : Type 1} → statement M
 put-verdict-spec =

@@ -4,7 +4,7 @@ use mathlib.Core.Path.{_≡_}
 use native.Mathlib.Omega.{arith}
 use borrow.Author.Needs.{needs}
 use lib.ListN.{length, length-take, length-drop}
-use Rattle.report.proofs.Readings.{fit-more, ended-within}
+use Rattle.report.proofs.Readings.{within-more, within-octets}
 use Rattle.report.proofs.read_input.Statement.{statement}
 use Rattle.report.proofs.read_input.Tie as tie
 
@@ -17,53 +17,58 @@ abbrev μ-loop : tie.MeasureT-loop
 loop-holds : tie.Need-loop-holds Inv-loop μ-loop
 loop-holds c = search needs
 
-sub-read-once : tie.Need-sub-read-once Inv-loop μ-loop
-sub-read-once c = search needs
+sub-read-some : tie.Need-sub-read-some Inv-loop μ-loop
+sub-read-some c = search needs
 
-part-read-once-start : tie.Need-part-read-once-start Inv-loop μ-loop
-part-read-once-start c = search needs
+part-read-some-start : tie.Need-part-read-some-start Inv-loop μ-loop
+part-read-some-start c = search needs
 
-part-read-once-end : tie.Need-part-read-once-end Inv-loop μ-loop
-part-read-once-end c = search needs
+part-read-some-end : tie.Need-part-read-some-end Inv-loop μ-loop
+part-read-some-end c = search needs
 
-read-once-requires : tie.Need-read-once-requires Inv-loop μ-loop
-read-once-requires c κs = search needs
+read-some-requires : tie.Need-read-some-requires Inv-loop μ-loop
+read-some-requires c κs = search needs
 
 enum-known-got : tie.Need-enum-known-got Inv-loop μ-loop
 enum-known-got c = search needs
 
-ended-requires : tie.Need-ended-requires Inv-loop μ-loop
-ended-requires c κs = search needs
+enum-told : tie.Need-enum-told Inv-loop μ-loop
+enum-told c = search needs
 
 same-length : tie.Need-same-length Inv-loop μ-loop
 same-length c = search needs
 
 returns : tie.Need-returns Inv-loop μ-loop
-returns c = ended-within (c .ended .result) (c .before .before .before .before .read-once .result) (c .before .before .before .before .before .before .before .loop .n) (length (c .before .before .before .before .before .before .before .before .before .args .buf .now)) (c .ended .ensures) (omega arith)
-
-add-n : tie.Need-add-n Inv-loop μ-loop
-add-n c =
-    let f = fit-more _ _ _ (c .before .before .before .before .before .read-once .ensures) (c .before .got .given .1) in
-    let most = simp (length-take, length-drop) at (f .1) in
-    omega arith
-
-loop-less : tie.Need-loop-less Inv-loop μ-loop
-loop-less c =
-    let f = fit-more _ _ _ (c .before .before .before .before .before .read-once .ensures) (c .before .got .given .1) in
-    let most = simp (length-take, length-drop) at (f .1) in
-    omega arith
-
-loop-again : tie.Need-loop-again Inv-loop μ-loop
-loop-again c =
-    let f = fit-more _ _ _ (c .before .before .before .before .before .read-once .ensures) (c .before .got .given .1) in
-    let most = simp (length-take, length-drop) at (f .1) in
-    omega arith
+returns c =
+    let read = c .before .before .before .before .read-some in
+    within-more (read .result) _ _ (simp (length-take, length-drop) (omega arith)) (read .ensures)
 
 same-length-2 : tie.Need-same-length-2 Inv-loop μ-loop
 same-length-2 c = search needs
 
 returns-2 : tie.Need-returns-2 Inv-loop μ-loop
 returns-2 c = search needs
+
+add-n : tie.Need-add-n Inv-loop μ-loop
+add-n c =
+    let most = simp (length-take, length-drop) at (within-octets _ _ _ (c .before .before .before .before .before .before .read-some .ensures) (c .before .before .got .given .1)) in
+    omega arith
+
+loop-less : tie.Need-loop-less Inv-loop μ-loop
+loop-less c =
+    let most = simp (length-take, length-drop) at (within-octets _ _ _ (c .before .before .before .before .before .before .read-some .ensures) (c .before .before .got .given .1)) in
+    omega arith
+
+loop-again : tie.Need-loop-again Inv-loop μ-loop
+loop-again c =
+    let most = simp (length-take, length-drop) at (within-octets _ _ _ (c .before .before .before .before .before .before .read-some .ensures) (c .before .before .got .given .1)) in
+    omega arith
+
+same-length-3 : tie.Need-same-length-3 Inv-loop μ-loop
+same-length-3 c = search needs
+
+returns-3 : tie.Need-returns-3 Inv-loop μ-loop
+returns-3 c = search needs
 
 pub read-input-spec : {M : Type 1} → statement M
 read-input-spec =
@@ -72,16 +77,18 @@ read-input-spec =
     Inv-loop
     μ-loop
     loop-holds
-    sub-read-once
-    part-read-once-start
-    part-read-once-end
-    read-once-requires
+    sub-read-some
+    part-read-some-start
+    part-read-some-end
+    read-some-requires
     enum-known-got
-    ended-requires
+    enum-told
     same-length
     returns
+    same-length-2
+    returns-2
     add-n
     loop-less
     loop-again
-    same-length-2
-    returns-2)
+    same-length-3
+    returns-3)

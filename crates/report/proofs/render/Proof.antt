@@ -1,9 +1,9 @@
--- `report::render` meets its contract: the first line and the body, which every buffer of `room` octets holds.
+-- `report::render` meets its contract: the first line and the body, which `room` octets hold.
+use mathlib.Core.Path.{_∙_}
 use native.Mathlib.Omega.{arith}
-use Rattle.text.proofs.Pages.{and-then}
+use Rattle.text.proofs.Pages.{and-then, laid-front}
 use Rattle.report.specs.Report.{reportText}
 use Rattle.report.proofs.Room.{report-length}
-use Rattle.report.proofs.Shown.{shown-counts, shown-whole}
 use borrow.Author.Needs.{needs}
 use Rattle.report.proofs.render.Statement.{statement}
 use Rattle.report.proofs.render.Tie as tie
@@ -23,10 +23,13 @@ same-length c = search needs
 returns : tie.Need-returns
 unfolding reportText
 returns c =
-    let e = and-then _ _ _ (c .before .before .before .before .before .before .put-text .ensures) (c .before .before .put-body .ensures) in
-    let s = c .before .before .before .before .before .before .before .before .before .before .before .args .capture .now in
-    let fits = report-length s (λ i. omega (arith, c .before .before .before .before .before .before .before .before .before .before .shared-slice-known .given i)) in
-    (e, (shown-counts _ _ _ _ e, λ h. shown-whole _ _ _ _ e (omega arith)))
+    let start = c .before .before .before .before .before .before .before .before .before .before in
+    let capture = start .before .args .capture .now in
+    let laid-all = and-then _ _ _ (c .before .before .before .before .before .before .put-text .ensures) (c .before .before .put-body .ensures) in
+    record {
+      shown = laid-all ∙ laid-front (reportText capture) (start .before .args .out .now);
+      whole = report-length capture (λ i. omega (arith, start .shared-slice-known .given i));
+    }
 
 pub render-spec : {M : Type 1} → statement M
 render-spec =
