@@ -67,11 +67,11 @@ fn put_step(out: &mut [u8], at: usize, step: Step) -> usize
     }
 }
 
-// Where the walk goes on behind a packet: at the next octet, whatever the verdict.
-fn onward(verdict: Verdict, next: Cursor) -> usize
-    ensures { λ r. ⌜ r ≡ next .at ⌝ }
+// Where the walk goes on behind a packet: at the place that the splitter gives, whatever the verdict.
+fn onward(verdict: Verdict, place: usize) -> usize
+    ensures { λ r. ⌜ r ≡ place ⌝ }
 {
-    next.at
+    place
 }
 
 // Where the step after this one begins: `last` after the last.
@@ -84,7 +84,7 @@ fn after(step: Step, last: usize) -> usize
             total: _,
             verdict,
             next,
-        } => onward(verdict, next),
+        } => onward(verdict, next.at),
         Step::Tail {
             at: _,
             len: _,

@@ -1,5 +1,6 @@
 -- `report::put_body` meets its contract: too long, or a line for each piece and the end.
 use mathlib.Core.Path.{ap, _∙_}
+use native.Mathlib.Omega.{arith}
 use Rattle.text.specs.Page.{laid}
 use Rattle.text.proofs.Pages.{and-then}
 use Rattle.report.proofs.Body.{body-long, body-whole}
@@ -17,7 +18,7 @@ same-length : tie.Need-same-length
 same-length c = search needs
 
 returns : tie.Need-returns
-returns c = c .before .before .put-text .ensures ∙ ap (laid _) (body-long _ (c .before .before .before .before .before .if1 .taken))
+returns c = c .before .before .put-text .ensures ∙ ap (laid _) (body-long _ (omega (arith, c .before .before .before .before .before .if1 .taken)))
 
 put-lines-requires : tie.Need-put-lines-requires
 put-lines-requires c κs = search needs
@@ -50,7 +51,7 @@ returns-2 c =
     and-then _ _ _
     (and-then _ _ _ (and-then _ _ _ (first .put-lines .ensures) (second .put-text2 .ensures)) (third .put-number .ensures))
     (fourth .put-text3 .ensures)
-    ∙ ap (laid _) (body-whole _ (test .if1 .left))
+    ∙ ap (laid _) (body-whole _ (omega (arith, test .if1 .left)))
 
 pub put-body-spec : {M : Type 1} → statement M
 put-body-spec =

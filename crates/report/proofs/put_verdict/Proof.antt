@@ -2,6 +2,7 @@
 use Prim.Native.Nat.{ℕ}
 use mathlib.Core.Path.{sym, ap, ap₂, _∙_}
 use mathlib.Core.List.{_++_}
+use native.Mathlib.Omega.{arith}
 use Rattle.text.specs.Ascii.{ascii}
 use Rattle.text.specs.Digits.{decimal}
 use Rattle.text.specs.Page.{laid}
@@ -68,7 +69,7 @@ returns c =
     let arm = word .before .before .before .before in
     and-then _ _ _ (word .put-text .ensures) (numbers .put-two .ensures)
     ∙ ap (laid _)
-    (ap₂ (λ (x y : ℕ). ascii " accept " ++ twoText x y) (service .service-type-id .ensures) (subtype .message-subtype-id .ensures)
+    (ap₂ (λ (x y : ℕ). ascii " accept " ++ twoText x y) (omega (arith, service .service-type-id .ensures)) (omega (arith, subtype .message-subtype-id .ensures))
     ∙ ap (λ (v : Verdict). verdictText (verdictAnswer v)) (sym (arm .verdict .given .1)))
 
 same-length-2 : tie.Need-same-length-2
