@@ -32,21 +32,18 @@ abbrev Small : {A : Type 0} → (A → Type 0) → Answer A → Type 0
 Small P (gives x) = P x
 Small P (refuses e) = e .number < 100
 
-small-if : {A : Type 0} (P : A → Type 0) (b : Bool) (e : Numbers) (k : Answer A) → e .number < 100 → Small P k → Small P (refuseIf b e k)
-unfolding refuseIf
-small-if P true e k h s = h
-small-if P false e k h s = s
-
-small-then : {A B : Type 0} (P : B → Type 0) (a : Answer A) (f : A → Answer B) → Small (λ _. Unit {0}) a → ((x : A) → Small P (f x)) → Small P (a then f)
-unfolding _then_
-small-then P (gives x) f s k = k x
-small-then P (refuses e) f s k = s
-
 abbrev Free : {A : Type 0} → Answer A → Type 0
 Free {A} a = Small (λ (x : A). Unit {0}) a
 
 free-if : {A : Type 0} (b : Bool) (e : Numbers) (k : Answer A) → e .number < 100 → Free k → Free (refuseIf b e k)
-free-if b e k h s = small-if (λ _. Unit {0}) b e k h s
+unfolding refuseIf
+free-if true e k h s = h
+free-if false e k h s = s
+
+small-then : {A B : Type 0} (P : B → Type 0) (a : Answer A) (f : A → Answer B) → Free a → ((x : A) → Small P (f x)) → Small P (a then f)
+unfolding _then_
+small-then P (gives x) f s k = k x
+small-then P (refuses e) f s k = s
 
 small-frame : (s : List ℕ) → Free (frameOf 11 s true)
 unfolding frameOf

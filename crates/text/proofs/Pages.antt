@@ -9,7 +9,6 @@ use borrow.Author.Tests.{lt-ltb, le-ltb, ltb-true, ltb-false}
 use lib.Dec.{ltb}
 use lib.ListN.{length, take, drop, set, length-set, length-append, length-take, length-drop, take-append-drop, drop-of-length-le}
 use lib.Seq.{sets, sets-eq}
-use Rattle.text.specs.Pieces.{pick}
 use Rattle.text.specs.Page.{Page, page, placed, laid, front}
 
 -- one text after another is the two in one

@@ -1,10 +1,11 @@
 // The words of a line protocol: pieces of a line, numbers and octets as text, and a buffer that answers are laid into.
-// No call refuses anything: a place past the end is an empty part, and an octet that has no room is dropped.
+// No call refuses anything: a place past the end is an empty part, a field that says nothing is `Bad`, and what is laid past the
+// end of a buffer is dropped.
 ghost use mathlib.Core.Path.{_≡_};
 ghost use mathlib.Core.Bool.{true};
-ghost use mathlib.Core.List.{[], _∷_, _++_};
+ghost use mathlib.Core.List.{[], _∷_};
 ghost use Prim.Native.Nat.{_+_, _-_, _/_, _%_, _<_};
-ghost use lib.ListN.{length, take, drop};
+ghost use lib.ListN.{take, drop};
 ghost use Rattle.text.specs.Pieces.{gap, one, countOf, pieceOf};
 ghost use Rattle.text.specs.Digits.{hexGlyph, hexValue, hexOctet, hexText, pairValue, pairOf, arePairs, pairOctets, withDigit, decimal, numberFrom, numberOf, wordOf};
 ghost use Rattle.text.specs.Page.{page, placed, laid, read, octetsOf};
