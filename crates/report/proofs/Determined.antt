@@ -1,9 +1,9 @@
--- Two results that meet the contract of `render` are equal, and so is what they leave in the buffer.
+-- What a report leaves in a buffer and its length are told by its contract (see `Determined` of text).
 use Prim.Native.Nat.{ℕ}
-use mathlib.Core.Path.{_≡_}
+use mathlib.Core.Path.{_≡_, sym, _∙_}
 use mathlib.Core.List.{List}
-use Rattle.text.proofs.Determined.{lays}
+use Rattle.text.proofs.Determined.{same-page}
 use Rattle.report.specs.Report.{Rendered}
 
-pub render : (capture before l m : List ℕ) (x y : ℕ) → Rendered capture before l x → Rendered capture before m y → (x ≡ y) × (l ≡ m)
-render capture before l m x y p q = lays _ x y l m (p .shown) (q .shown)
+pub rendered : (capture before : List ℕ) (x y : ℕ) (l m : List ℕ) → Rendered capture before x l → Rendered capture before y m → (x ≡ y) × (l ≡ m)
+rendered capture before x y l m p q = same-page x y l m (p .shown ∙ sym (q .shown))

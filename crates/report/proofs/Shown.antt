@@ -26,7 +26,7 @@ module _ (t before after : List ℕ) (n : ℕ) (e : page after n ≡ laid (page 
   pub laid-text : take n after ≡ t
   laid-text = shown-text t before after n (e ∙ laid-room t before h)
 
-module _ {capture before after : List ℕ} {n : ℕ} (k : Rendered capture before after n) (h : room ≤ length before) where
+module _ {capture before after : List ℕ} {n : ℕ} (k : Rendered capture before n after) (h : room ≤ length before) where
   all : page after n ≡ front before (reportText capture)
   all = k .shown ∙ ap (front before) (take-all (length before) (reportText capture) (omega (arith, k .whole)))
 

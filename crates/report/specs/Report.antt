@@ -49,7 +49,7 @@ abbrev pub room : ℕ
 room = 12 + 4 * 65536 + 13 + 10
 
 -- what putting a report at the start of the buffer `before` answers and leaves
-pub record Rendered (capture before after : List ℕ) (n : ℕ) : Type 0 where
+pub record Rendered (capture before : List ℕ) (n : ℕ) (after : List ℕ) : Type 0 where
   -- as much of the report as there is room for, and its length; behind it what was there
   pub shown : page after n ≡ front before (take (length before) (reportText capture))
   -- which is all of it where there are `room` octets

@@ -123,7 +123,7 @@ fn put_body(out: &mut [u8], at: usize, capture: &[u8]) -> usize
 
 // Puts the report of a capture at the start of out, and answers how many characters it has; what has no room is left out.
 pub fn render(capture: &[u8], out: &mut [u8]) -> usize
-    ensures { λ r. ⌜ Rendered (now (capture .entry)) (now (out .entry)) (now (out .exit)) r ⌝ }
+    ensures { λ r. ⌜ Rendered (now (capture .entry)) (now (out .entry)) r (now (out .exit)) ⌝ }
 {
     let n = text::put_text(out, 0, b"tcverdict 1\n");
     put_body(out, n, capture)

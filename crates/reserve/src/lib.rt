@@ -118,7 +118,8 @@ impl Reservation {
         }
     }
 
-    // The data, to be written; the empty part where it is refused.
+    // The data, to be written; the empty part where it is refused. The buffer is lent on with the part, so no contract can
+    // say what the rest of it holds, nor what a refused call leaves in it: `fill` has every octet fixed.
     pub fn part_mut(self, size: u8, buf: &mut [u8]) -> &mut [u8]
         ensures { λ r. ⌜ (now r ≡ within (boundsOf (6 + size) self (length (now (buf .entry)))) (now (buf .entry)))
             × ((r .ptr .0 ≡ buf .entry .ptr .0) × (r .ptr .1 ≡ buf .entry .ptr .1 + beginsAt (boundsOf (6 + size) self (length (now (buf .entry)))))) ⌝ }

@@ -1,3 +1,2 @@
 pub mod Anew
-pub mod Determined
 pub mod Reader

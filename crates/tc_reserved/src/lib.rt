@@ -139,7 +139,8 @@ impl PusTcCreatorWithReservedAppData {
         held.part(5, buf)
     }
 
-    // The data, to be written; the empty part where it is refused.
+    // The data, to be written; the empty part where it is refused. The buffer is lent on with the part, so no contract can
+    // say what the rest of it holds, nor what a refused call leaves in it: `fill_app_data` has every octet fixed.
     pub fn app_data_mut(self, buf: &mut [u8]) -> &mut [u8]
         ensures { λ r. ⌜ (now r ≡ within (boundsOf 11 (self .0) (length (now (buf .entry)))) (now (buf .entry)))
             × ((r .ptr .0 ≡ buf .entry .ptr .0) × (r .ptr .1 ≡ buf .entry .ptr .1 + beginsAt (boundsOf 11 (self .0) (length (now (buf .entry)))))) ⌝ }

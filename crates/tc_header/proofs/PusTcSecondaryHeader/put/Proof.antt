@@ -38,7 +38,7 @@ same-length c = search needs
 
 returns : tie.Need-returns
 unfolding secOctets
-returns c = let x = c .before .args .self in let e : 32 + x .«ack_flags» .0 ≡ versionNumber (x .version) * 16 + x .«ack_flags» .0 = omega (arith, ap versionNumber (c .before .pre .1)) in rw (e, sets-eq (secOctets x) (c .before .args .buf .now) 0 (omega arith))
+returns c = let x = c .before .args .self in let e : 32 + x .«ack_flags» .0 ≡ versionNumber (x .version) * 16 + x .«ack_flags» .0 = omega (arith, ap versionNumber (c .before .pre .1)) in rw e (sets-eq (secOctets x) (c .before .args .buf .now) 0 (omega arith))
 
 pub put-spec : {M : Type 1} → statement M
 put-spec =
