@@ -1,6 +1,6 @@
 -- `text::put_word` meets its contract: the two octets, one after the other.
 use Rattle.text.specs.Digits.{hexText}
-use Rattle.text.specs.Page.{laid}
+use Rattle.text.proofs.Pages.{and-then}
 use borrow.Author.Needs.{needs}
 use Rattle.text.proofs.put_word.Statement.{statement}
 use Rattle.text.proofs.put_word.Tie as tie
@@ -21,8 +21,11 @@ same-length : tie.Need-same-length
 same-length c = search needs
 
 returns : tie.Need-returns
-unfolding laid hexText
-returns c = cc
+unfolding hexText
+returns c =
+    let second = c .before .before in
+    let first = second .before .before .before .before in
+    and-then _ _ _ (first .put-octet .ensures) (second .put-octet2 .ensures)
 
 pub put-word-spec : {M : Type 1} → statement M
 put-word-spec =
