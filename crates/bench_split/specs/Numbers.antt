@@ -2,7 +2,7 @@
 use Prim.Native.Nat.{ℕ}
 use Rattle.space_packet.specs.Answer.{Answer, gives, refuses}
 use Rattle.tc_read.specs.declared.PusTcRecord.{PusTcRecord}
-use Rattle.strict.specs.Split.{Next, end, piece, packet, tail}
+use Rattle.tc_strict.specs.Split.{Next, end, piece, packet, tail}
 
 -- where the next piece begins, behind a packet that is accepted
 abbrev pub nextBehind : Answer PusTcRecord → ℕ → ℕ

@@ -1,10 +1,10 @@
 // What the benchmark links: a step of the splitter, for a caller in C. In a crate of its own, as in a program that has this one use for it.
 ghost use mathlib.Core.Path.{_≡_};
-ghost use Rattle.strict.specs.Split.{stepOf};
+ghost use Rattle.tc_strict.specs.Split.{stepOf};
 ghost use Rattle.bench_split.specs.Numbers.{stepNumber};
-use strict::Verdict;
-use strict::split::Cursor;
-use strict::split::Step;
+use tc_strict::Verdict;
+use tc_strict::split::Cursor;
+use tc_strict::split::Step;
 
 // Where the next packet begins, 0 where this one is not accepted.
 #[no_mangle]

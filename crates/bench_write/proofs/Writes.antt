@@ -7,8 +7,8 @@ use Rattle.space_packet.specs.Answer.{Answer, Numbers, gives, refuses, _then_, 
 use Rattle.space_packet.specs.Header.{leftBy}
 use Rattle.space_packet.specs.Wrote.{Wrote}
 use Rattle.space_packet.specs.declared.SizeResult.{SizeResult}
-use Rattle.ecss_tc.specs.Creator.{writeOf, octetsFor}
-use Rattle.ecss_tc.specs.declared.PusTcCreator.{PusTcCreator}
+use Rattle.tc_write.specs.Creator.{writeOf, octetsFor}
+use Rattle.tc_write.specs.declared.PusTcCreator.{PusTcCreator}
 use Rattle.bench_write.specs.Numbers.{writtenOf, octetsOf, sizeNumber}
 
 -- what is answered, and what the buffer holds after it

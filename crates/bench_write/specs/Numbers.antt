@@ -7,8 +7,8 @@ use Rattle.space_packet.specs.Header.{headerOf}
 use Rattle.ecss.specs.Version.{messageType, defaultConfig}
 use Rattle.ecss.specs.declared.PusVersion.the-variants.{PusC}
 use Rattle.tc_header.specs.Header.{ackOf, secFrom}
-use Rattle.ecss_tc.specs.Creator.{newOf, writeOf, octetsFor}
-use Rattle.ecss_tc.specs.declared.PusTcCreator.{PusTcCreator}
+use Rattle.tc_write.specs.Creator.{newOf, writeOf, octetsFor}
+use Rattle.tc_write.specs.declared.PusTcCreator.{PusTcCreator}
 
 -- a command of two raw words and a message type, with n octets of data
 abbrev pub madeOf : ℕ → ℕ → ℕ → ℕ → ℕ → Answer PusTcCreator

@@ -2,16 +2,16 @@
 ghost use mathlib.Core.Path.{_≡_};
 ghost use lib.ListN.{length};
 ghost use Rattle.space_packet.specs.Header.{leftBy};
-ghost use Rattle.ecss_tc.specs.Creator.{creatorAnswer};
+ghost use Rattle.tc_write.specs.Creator.{creatorAnswer};
 ghost use Rattle.bench_write.specs.Numbers.{madeOf, writtenOf, octetsOf, sizeNumber};
 use ecss::CreatorConfig;
 use ecss::MessageTypeId;
-use ecss_tc::PusTcCreator;
-use ecss_tc::PusTcCreatorResult;
 use space_packet::PacketId;
 use space_packet::PacketSequenceControl;
 use space_packet::SizeResult;
 use space_packet::SpHeader;
+use tc_write::PusTcCreator;
+use tc_write::PusTcCreatorResult;
 
 // A command of two raw words and a message type.
 fn made(id: u16, psc: u16, service: u8, subtype: u8, data: &[u8]) -> PusTcCreatorResult

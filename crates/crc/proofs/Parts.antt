@@ -4,7 +4,7 @@ use mathlib.Core.List.{List, [], _++_}
 use Prim.Native.Nat.{ℕ}
 use Rattle.crc.specs.Digest.{digestOf, taken}
 use Rattle.crc.specs.declared.Digest.{Digest}
-use Rattle.crc_step.proofs.Linear.{crcFrom-nil, crcFrom-++}
+use Rattle.crc_register.proofs.Linear.{crcFrom-nil, crcFrom-++}
 
 -- a digest by its register
 abbrev pub holding : ℕ → Digest

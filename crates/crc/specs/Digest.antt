@@ -1,7 +1,7 @@
 -- A checksum on its way, by the octets taken so far.
 use mathlib.Core.List.{List}
 use Prim.Native.Nat.{ℕ}
-use Rattle.crc_step.specs.Crc.{crcFrom, crcOf}
+use Rattle.crc_register.specs.Crc.{crcFrom, crcOf}
 use Rattle.crc.specs.declared.Digest.{Digest}
 
 -- the digest of the octets l

@@ -2,14 +2,14 @@
 // CRC_16_IBM_3740, with a table of 256 entries and with none. No call refuses anything.
 ghost use mathlib.Core.Path.{_≡_};
 ghost use mathlib.Core.List.{[]};
-ghost use Rattle.crc_step.specs.Crc.{crcOf};
+ghost use Rattle.crc_register.specs.Crc.{crcOf};
 ghost use Rattle.crc.specs.Digest.{digestOf, taken, checksumHeld};
 
 // The checksum of the octets, by the table.
 pub fn crc_ccitt_false(data: &[u8]) -> u16
     ensures { λ r. ⌜ r ≡ crcOf (now («data» .entry)) ⌝ }
 {
-    crc_step::table_from(0xFFFF, data)
+    crc_register::table_from(0xFFFF, data)
 }
 
 // The same number with no table.
@@ -37,7 +37,7 @@ impl Digest {
         ensures { λ r. ⌜ r ≡ taken self (now («data» .entry)) ⌝ }
     {
         Digest {
-            register: crc_step::table_from(self.register, data),
+            register: crc_register::table_from(self.register, data),
         }
     }
 

@@ -5,8 +5,8 @@ use native.Mathlib.Nat.{mod-lt, div-lt-iff-lt-mul, pow-suc, mul-comm, one-mul, z
 use native.Mathlib.Omega.{arith}
 use lib.Arith.{lt-one}
 use lib.Pow.{split, pow-pos}
-use Rattle.crc_step.specs.Crc.{_⊕_}
-use Rattle.crc_step.proofs.Xor.{⊕-self, ⊕-undo, ⊕-join, ⊕-swap, ⊕-shl, ⊕-shr, ⊕-mod}
+use Rattle.crc_register.specs.Crc.{_⊕_}
+use Rattle.crc_register.proofs.Xor.{⊕-self, ⊕-undo, ⊕-join, ⊕-swap, ⊕-shl, ⊕-shr, ⊕-mod}
 
 abbrev pub Additive : (ℕ → ℕ) → Type 0
 Additive f = (a b : ℕ) → f (a ⊕ b) ≡ f a ⊕ f b

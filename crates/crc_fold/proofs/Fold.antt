@@ -6,15 +6,15 @@ use Prim.Native.Nat.{ℕ, zero, suc, _+_, _*_, _/_, _%_, _^_, _<_}
 use native.Mathlib.Omega.{arith}
 use lib.Dec.{lit<}
 use lib.ListN.{length, replicate, length-append, length-replicate}
-use Rattle.crc_step.specs.Crc.{_⊕_, bit, shiftIn, run, octetBits, bitsOf, crcFrom}
-use Rattle.crc_step.specs.Error.{addOctets}
+use Rattle.crc_register.specs.Crc.{_⊕_, bit, shiftIn, run, octetBits, bitsOf, crcFrom}
+use Rattle.crc_register.specs.Added.{addOctets}
 use Rattle.crc_fold.specs.Word.{octs, lows}
 use Rattle.crc_fold.specs.Folded.{lows4}
 use Rattle.crc_fold.specs.declared.folded.Four.{Four}
-use Rattle.crc_step.proofs.Below.{same-below}
-use Rattle.crc_step.proofs.Xor.{⊕-comm, ⊕-cancel}
-use Rattle.crc_step.proofs.Linear.{shiftIn-⊕, crcFrom-++}
-use Rattle.crc_step.proofs.Zeros.{crcFrom-lt}
+use Rattle.crc_register.proofs.Below.{same-below}
+use Rattle.crc_register.proofs.Xor.{⊕-comm, ⊕-cancel}
+use Rattle.crc_register.proofs.Linear.{shiftIn-⊕, crcFrom-++}
+use Rattle.crc_register.proofs.Zeros.{crcFrom-lt}
 use Rattle.crc_fold.proofs.Basis.{Additive, id-add, none-add, sum-add, then-add, by-bits}
 use Rattle.crc_fold.proofs.Rows.{zeros, zeros-add, zeros-then, zeros-shift, add-++, from-none, apart}
 use Rattle.crc_fold.proofs.Word.{octs-⊕, lows-⊕, moved}

@@ -8,12 +8,12 @@ use native.Mathlib.Omega.{arith}
 use lib.Pow.{pow-pos}
 use lib.ListN.{length, take, drop, replicate, length-append, length-replicate, take-append-drop, replicate-append-replicate}
 use lib.Seq.{drop-drop, take-add}
-use Rattle.crc_step.specs.Crc.{_⊕_, bit, shiftIn, run, octetBits, crcFrom}
-use Rattle.crc_step.specs.Error.{addOctets}
+use Rattle.crc_register.specs.Crc.{_⊕_, bit, shiftIn, run, octetBits, crcFrom}
+use Rattle.crc_register.specs.Added.{addOctets}
 use Rattle.crc_fold.specs.Word.{octs, Left}
-use Rattle.crc_step.proofs.Xor.{⊕-zero, zero-⊕, ⊕-comm}
-use Rattle.crc_step.proofs.Linear.{crcFrom-cons, crcFrom-nil, crcFrom-++, crcFrom-⊕}
-use Rattle.crc_step.proofs.Residue.{two-in, two-octets}
+use Rattle.crc_register.proofs.Xor.{⊕-zero, zero-⊕, ⊕-comm}
+use Rattle.crc_register.proofs.Linear.{crcFrom-cons, crcFrom-nil, crcFrom-++, crcFrom-⊕}
+use Rattle.crc_register.proofs.Residue.{two-in, two-octets}
 use Rattle.crc_fold.proofs.Basis.{Additive, at-zero}
 
 -- the register after n zero octets

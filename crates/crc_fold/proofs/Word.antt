@@ -7,12 +7,12 @@ use native.Mathlib.Omega.{arith}
 use lib.Pow.{high, low, field, mod-mod-pow, shr-shr, shl-exact}
 use lib.ListN.{length, take, drop, getD, replicate}
 use lib.Seq.{drop-cons}
-use Rattle.crc_step.specs.Crc.{_⊕_, bit, shiftIn, run, octetBits, bitsOf, crcFrom}
-use Rattle.crc_step.specs.Error.{addOctets}
+use Rattle.crc_register.specs.Crc.{_⊕_, bit, shiftIn, run, octetBits, bitsOf, crcFrom}
+use Rattle.crc_register.specs.Added.{addOctets}
 use Rattle.crc_fold.specs.Word.{octs, lows}
-use Rattle.crc_step.proofs.Below.{same-below}
-use Rattle.crc_step.proofs.Xor.{⊕-shr, ⊕-mod}
-use Rattle.crc_step.proofs.Linear.{crcFrom-⊕}
+use Rattle.crc_register.proofs.Below.{same-below}
+use Rattle.crc_register.proofs.Xor.{⊕-shr, ⊕-mod}
+use Rattle.crc_register.proofs.Linear.{crcFrom-⊕}
 use Rattle.crc_fold.proofs.Basis.{Additive, id-add, shr-add, shl-add, mod-add, sum-add, then-add, by-bits}
 use Rattle.crc_fold.proofs.Rows.{add-++, zeros-sum, ahead, from-none, in-front}
 

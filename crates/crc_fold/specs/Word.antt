@@ -3,7 +3,7 @@ use mathlib.Core.Path.{_≡_}
 use mathlib.Core.List.{List, [], _∷_, reverse}
 use Prim.Native.Nat.{ℕ, zero, suc, _*_, _/_, _%_, _^_, _≤_}
 use lib.ListN.{length, drop}
-use Rattle.crc_step.specs.Crc.{crcFrom}
+use Rattle.crc_register.specs.Crc.{crcFrom}
 
 -- the n low octets of a number, the most significant first
 unfoldable pub octs : ℕ → ℕ → List ℕ

@@ -7,8 +7,8 @@
 ghost use mathlib.Core.Path.{_≡_};
 ghost use Prim.Native.Nat.{_+_, _≤_};
 ghost use lib.ListN.{length, take, drop};
-ghost use Rattle.crc_step.specs.Crc.{crcFrom};
-ghost use Rattle.crc_step.specs.Error.{addOctets};
+ghost use Rattle.crc_register.specs.Crc.{crcFrom};
+ghost use Rattle.crc_register.specs.Added.{addOctets};
 ghost use Rattle.crc_fold.specs.Word.{octs, Left};
 ghost use Rattle.crc_fold.specs.Folded.{octs4, lows4, lows16};
 use super::words;

@@ -3,7 +3,7 @@ mod folded; // folded.rt: long rows of octets, by folding
 mod words; // words.rt: eight, four and two octets at once
 
 ghost use mathlib.Core.Path.{_≡_};
-ghost use Rattle.crc_step.specs.Crc.{crcFrom};
+ghost use Rattle.crc_register.specs.Crc.{crcFrom};
 
 // The register after the octets, with no table: every table-free call comes here. Each function below has one caller,
 // so that the compiler makes one piece of them.

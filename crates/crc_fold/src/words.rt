@@ -3,7 +3,7 @@ ghost use mathlib.Core.Path.{_≡_};
 ghost use mathlib.Core.List.{[], _∷_};
 ghost use Prim.Native.Nat.{_+_, _≤_, _<_};
 ghost use lib.ListN.{length, take, drop};
-ghost use Rattle.crc_step.specs.Crc.{crcFrom};
+ghost use Rattle.crc_register.specs.Crc.{crcFrom};
 ghost use Rattle.crc_fold.specs.Word.{octs, lows};
 
 // The word of eight octets, the first the most significant. The sum is balanced: the compiler sees no load of eight
@@ -89,7 +89,7 @@ fn below_two(r: u16, s: &[u8], i: usize) -> u16
     ensures { λ q. ⌜ q ≡ crcFrom r (drop i (now (s .entry))) ⌝ }
 {
     if i < s.len() {
-        return crc_step::no_table_octet(r, s[i]);
+        return crc_register::no_table_octet(r, s[i]);
     }
     r
 }

@@ -10,11 +10,11 @@ use lib.Dec.{eqb, lit<}
 use lib.Pow.{pow-pos, mod-mod-pow}
 use lib.ListN.{length, getD, take, drop, take-append-drop, length-take}
 use lib.Seq.{getD-drop}
-use Rattle.crc_step.specs.Crc.{_⊕_, differs, bit, feedback, shiftIn, run}
-use Rattle.detect.specs.Error.{Within, longest, Burst}
-use Rattle.crc_step.proofs.Xor.{⊕-zero, bit-⊕}
-use Rattle.crc_step.proofs.Linear.{run-++}
-use Rattle.crc_step.proofs.Zeros.{Clear, none, next, run-clear, run-lt}
+use Rattle.crc_register.specs.Crc.{_⊕_, differs, bit, feedback, shiftIn, run}
+use Rattle.detect.specs.Errors.{Within, longest, Burst}
+use Rattle.crc_register.proofs.Xor.{⊕-zero, bit-⊕}
+use Rattle.crc_register.proofs.Linear.{run-++}
+use Rattle.crc_register.proofs.Zeros.{Clear, none, next, run-clear, run-lt}
 
 -- a number whose k + 1 low bits are 0 is even, and its half's k low bits are 0
 halving : (n k : ℕ) → n % 2 ^ suc k ≡ 0 → (n / 2 % 2 ^ k ≡ 0) × (n % 2 ≡ 0)

@@ -8,12 +8,12 @@ use native.Mathlib.Nat.{lt-of-not-le, le-of-suc-le-suc}
 use native.Mathlib.Omega.{arith}
 use lib.ListN.{length, getD, take, drop}
 use lib.Seq.{getD-take, getD-drop}
-use Rattle.crc_step.specs.Crc.{_⊕_, bit, shiftIn, run, octetBits, bitsOf, crcFrom, crcOf}
-use Rattle.crc_step.specs.Error.{addOctets}
-use Rattle.crc_step.proofs.Xor.{zero-⊕}
-use Rattle.crc_step.proofs.Linear.{crcOf-⊕}
-use Rattle.crc_step.proofs.Zeros.{Clear, none, next}
-use Rattle.detect.specs.Error.{ones, Within, longest}
+use Rattle.crc_register.specs.Crc.{_⊕_, bit, shiftIn, run, octetBits, bitsOf, crcFrom, crcOf}
+use Rattle.crc_register.specs.Added.{addOctets}
+use Rattle.crc_register.proofs.Xor.{zero-⊕}
+use Rattle.crc_register.proofs.Linear.{crcOf-⊕}
+use Rattle.crc_register.proofs.Zeros.{Clear, none, next}
+use Rattle.detect.specs.Errors.{ones, Within, longest}
 use Rattle.detect.proofs.Burst.{clear-getD}
 
 -- its 17 bits, 1 0001 0000 0010 0001, in three octets

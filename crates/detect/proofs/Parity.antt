@@ -7,13 +7,13 @@ use native.Mathlib.Nat.{mod-lt}
 use native.Mathlib.Omega.{arith}
 use lib.Dec.{eqb, T, lit<}
 use lib.Pow.{pow-pos}
-use Rattle.crc_step.specs.Crc.{_⊕_, differs, bit, shiftIn, run}
-use Rattle.detect.specs.Error.{ones}
-use Rattle.crc_step.proofs.Below.{below}
-use Rattle.crc_step.proofs.Xor.{⊕-zero, ⊕-shr, bit-⊕, differs-swap, differs-false}
-use Rattle.crc_step.proofs.Linear.{shiftIn-⊕}
-use Rattle.crc_step.proofs.Octet.{halves}
-use Rattle.crc_step.proofs.Zeros.{shiftIn-lt}
+use Rattle.crc_register.specs.Crc.{_⊕_, differs, bit, shiftIn, run}
+use Rattle.detect.specs.Errors.{ones}
+use Rattle.crc_register.proofs.Below.{below}
+use Rattle.crc_register.proofs.Xor.{⊕-zero, ⊕-shr, bit-⊕, differs-swap, differs-false}
+use Rattle.crc_register.proofs.Linear.{shiftIn-⊕}
+use Rattle.crc_register.proofs.Octet.{halves}
+use Rattle.crc_register.proofs.Zeros.{shiftIn-lt}
 
 -- the sum of the n low bits
 par : ℕ → ℕ → Bool

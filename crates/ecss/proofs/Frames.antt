@@ -1,19 +1,15 @@
--- What it says that a length check or a write gives a total, and when it does.
-use Prim.Native.Nat.{ℕ, _+_, _-_, _≤_}
+-- What it says that the length checks give a total, and when they do.
+use Prim.Native.Nat.{ℕ, _+_, _≤_}
 use mathlib.Core.Path.{_≡_, refl, sym, ap, _∙_}
 use mathlib.Core.Bool.{Bool, true, false, not}
 use mathlib.Core.List.{List}
 use native.Mathlib.Omega.{arith}
 use lib.ListN.{length, take}
-use lib.Dec.{lit≤}
 use borrow.Author.Tests.{ltb-false, le-ltb, eq-eqb, eqb-true, not-false}
 use Rattle.space_packet.specs.Answer.{gives}
 use Rattle.space_packet.proofs.Answers.{gives-inj, refuse-no, refuse-gives, then-gives, gives-then}
-use Rattle.crc_step.specs.Crc.{crcOf}
-use Rattle.ecss.specs.Frame.{trailer, statedOf, storedOf, roomFor, frameOf, verified, checkedOf}
-use Rattle.ecss.specs.Write.{totalFor, lengthOf, lengthField, inBuffer, writeIn}
-
--- ---- reading
+use Rattle.crc_register.specs.Crc.{crcOf}
+use Rattle.ecss.specs.Frame.{trailer, statedOf, storedOf, checksumFits, frameOf, verified, checkedOf}
 
 -- the octets begin with a frame of n octets
 pub record FrameIs (start : ℕ) (s : List ℕ) (b : Bool) (n : ℕ) : Type 0 where
@@ -21,11 +17,11 @@ pub record FrameIs (start : ℕ) (s : List ℕ) (b : Bool) (n : ℕ) : Type 0 wh
   pub room : start + trailer b ≤ n
   pub fits : n ≤ length s
 
-room-total : (start : ℕ) (b : Bool) (m n : ℕ) → start ≤ m → roomFor start b m ≡ gives n → (n ≡ m) × (start + trailer b ≤ m)
+room-total : (start : ℕ) (b : Bool) (m n : ℕ) → start ≤ m → checksumFits start b m ≡ gives n → (n ≡ m) × (start + trailer b ≤ m)
 room-total start true m n h p = let q = refuse-gives _ _ _ n p in (sym (gives-inj m n (q .1)), ltb-false m (start + 2) (q .0))
 room-total start false m n h p = (sym (gives-inj m n p), omega arith)
 
-total-room : (start : ℕ) (b : Bool) (n : ℕ) → start + trailer b ≤ n → roomFor start b n ≡ gives n
+total-room : (start : ℕ) (b : Bool) (n : ℕ) → start + trailer b ≤ n → checksumFits start b n ≡ gives n
 total-room start true n h = refuse-no _ _ _ (le-ltb n (start + 2) h)
 total-room start false n h = refl
 
@@ -64,43 +60,3 @@ pub total-checked : (start : ℕ) (s : List ℕ) (n : ℕ) → FrameIs start s t
 unfolding checkedOf
 total-checked start s n f z =
     gives-then _ _ n (total-frame start s true n f) ∙ gives-then _ _ tt (refuse-no _ _ _ (ap not (eq-eqb _ 0 z)))
-
--- ---- writing
-
-pub trailer-le : (b : Bool) → trailer b ≤ 2
-trailer-le true = lit≤ tt
-trailer-le false = lit≤ tt
-
-pub length-total : (start : ℕ) (b : Bool) (n t : ℕ) → lengthOf start b n ≡ gives t → t ≡ totalFor start b n
-unfolding lengthOf
-length-total start b n t p = sym (gives-inj _ t (refuse-gives _ _ _ t p .1))
-
-pub total-length : (start : ℕ) (b : Bool) (n t : ℕ) → t ≡ totalFor start b n → t ≤ 18446744073709551615 → lengthOf start b n ≡ gives t
-unfolding lengthOf
-total-length start b n t e h = rw (sym e) (refuse-no _ _ _ (le-ltb 18446744073709551615 t h))
-
-pub in-buffer-is : (m n t : ℕ) → inBuffer m n ≡ gives t → (t ≡ n) × (n ≤ m)
-in-buffer-is m n t p = let r = refuse-gives _ _ _ t p in (sym (gives-inj n t (r .1)), ltb-false m n (r .0))
-
--- the length field of a total
-pub field-is : (start : ℕ) (b : Bool) (n t f : ℕ) → lengthOf start b n ≡ gives t → t ≤ 65542 → f ≡ t - 7 → lengthField start b n ≡ gives f
-unfolding lengthField
-field-is start b n t f e h k = gives-then _ _ t e ∙ gives-then _ _ t (refuse-no _ _ _ (le-ltb 65542 t h)) ∙ ap gives (sym k)
-
--- the data has room in a buffer of m octets, and the packet is t octets
-pub record WriteIs (start : ℕ) (b : Bool) (n m t : ℕ) : Type 0 where
-  pub is : t ≡ totalFor start b n
-  pub fits : t ≤ m
-
-pub write-total : (start : ℕ) (b : Bool) (n m t : ℕ) → writeIn start b n m ≡ gives t → WriteIs start b n m t
-unfolding writeIn
-write-total start b n m t p =
-    let q = then-gives (lengthOf start b n) (inBuffer m) t p in
-    let r = in-buffer-is m (q .0) t (q .2) in
-    record { is = r .0 ∙ length-total start b n (q .0) (q .1); fits = omega (arith, r .0, r .1) }
-
-pub total-write : (start : ℕ) (b : Bool) (n m t : ℕ) → WriteIs start b n m t → m ≤ 18446744073709551615 → writeIn start b n m ≡ gives t
-unfolding writeIn
-total-write start b n m t w h =
-    let f : t ≤ m = w .fits in
-    gives-then _ _ t (total-length start b n t (w .is) (omega arith)) ∙ refuse-no _ _ _ (le-ltb m t f)

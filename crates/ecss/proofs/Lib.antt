@@ -1,5 +1,4 @@
 pub mod Frames
-pub mod Parts
 pub mod Sealed
 pub mod Octets
 pub mod Rules

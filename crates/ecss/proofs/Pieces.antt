@@ -1,4 +1,4 @@
--- A packet's octets taken apart and put together again, for every codec.
+-- A packet's octets taken apart and put together again, for every kind.
 use Prim.Native.Nat.{ℕ, zero, suc, _+_, _-_, _≤_, _<_}
 use mathlib.Core.Path.{_≡_, refl, sym, ap, ap₂, _∙_, subst}
 use mathlib.Core.Bool.{Bool, true, false}
@@ -8,13 +8,11 @@ use lib.Dec.{lit<}
 use lib.ListN.{length, getD, take, drop, length-append, length-drop}
 use lib.Seq.{take-at, drop-at, take-add, drop-drop, drop-cons, getD-drop, getD-append-add, length-take-le}
 use Rattle.space_packet.specs.Bits.{be16}
-use Rattle.space_packet.specs.Answer.{gives}
-use Rattle.space_packet.specs.Header.{InRange, headerOctets, readHeader, totalOf}
-use Rattle.space_packet.specs.declared.SpacePacketHeader.{SpacePacketHeader}
+use Rattle.space_packet.specs.Header.{headerOctets, readHeader, packetLen}
 use Rattle.space_packet.proofs.RoundTrip.{read-written, written-read, stated-total, length-headerOctets}
-use Rattle.crc_step.specs.Crc.{crcOf}
+use Rattle.crc_register.specs.Crc.{crcOf}
 use Rattle.ecss.specs.Frame.{Octets, trailer, sealed, closed, statedOf, storedOf}
-use Rattle.ecss.specs.Codec.{Codec, Laws, Packet, startOf, contentOf, packetOf, secondaryOf, readAs}
+use Rattle.ecss.specs.Kind.{Kind, KindLaws, Taken, Packet, Stated, startOf, contentOf, packetOf, secondaryOf, readAs}
 use Rattle.ecss.proofs.Frames.{FrameIs}
 use Rattle.ecss.proofs.Sealed.{verifies-sealed}
 
@@ -38,14 +36,7 @@ trailer-length false l = refl
 regroup : (a x u z rest : List ℕ) → (a ++ (x ++ u)) ++ z ++ rest ≡ a ++ (x ++ (u ++ (z ++ rest)))
 regroup a x u z rest = simp append-assoc
 
--- a packet whose length field states its total; of its secondary header the codec's laws hold
-pub record Stated {H : Type 0} (c : Codec H) (b : Bool) (p : Packet H) : Type 0 where
-  pub in-range : InRange (p .primary)
-  pub beside : SpacePacketHeader
-  pub strict : c .Strict beside (p .secondary)
-  pub states-length : totalOf (p .primary) ≡ startOf c + length (p .user) + trailer b
-
-module _ {H : Type 0} (c : Codec H) (b : Bool) (p : Packet H) (rest : List ℕ) (w : Stated c b p) where
+module _ {H : Type 0} (c : Kind H) (b : Bool) (p : Packet H) (rest : List ℕ) (w : Stated c b p) where
   -- the octets, and what follows the data in them
   abbrev pub octetsOf : List ℕ
   octetsOf = closed b (contentOf c p) ++ rest
@@ -63,15 +54,15 @@ module _ {H : Type 0} (c : Codec H) (b : Bool) (p : Packet H) (rest : List ℕ) 
   primary-is = ap readHeader pieces ∙ read-written (p .primary) (c .enc (p .secondary) ++ (p .user ++ after)) (w .in-range)
 
   pub states : statedOf octetsOf ≡ startOf c + length (p .user) + trailer b
-  states = sym (stated-total octetsOf) ∙ ap totalOf primary-is ∙ w .states-length
+  states = sym (stated-total octetsOf) ∙ ap packetLen primary-is ∙ w .states-length
 
   behind-primary : drop 6 octetsOf ≡ c .enc (p .secondary) ++ (p .user ++ after)
   behind-primary =
       ap (drop 6) pieces ∙ drop-at (headerOctets (p .primary)) (c .enc (p .secondary) ++ (p .user ++ after)) 6 (length-headerOctets (p .primary))
 
-module _ {H : Type 0} (c : Codec H) (k : Laws c) (b : Bool) (p : Packet H) (rest : List ℕ) (w : Stated c b p) where
+module _ {H : Type 0} (c : Kind H) (k : KindLaws c) (b : Bool) (p : Packet H) (rest : List ℕ) (w : Stated c b p) where
   secondary-length : length (c .enc (p .secondary)) ≡ c .size
-  secondary-length = k .enc-size (w .beside) (p .secondary) (w .strict)
+  secondary-length = k .enc-size (p .secondary) (w .fits)
 
   pub secondary-octets : secondaryOf (c .size) (octetsOf c b p rest w) ≡ c .enc (p .secondary)
   secondary-octets =
@@ -79,7 +70,7 @@ module _ {H : Type 0} (c : Codec H) (k : Laws c) (b : Bool) (p : Packet H) (rest
       ∙ take-at (c .enc (p .secondary)) (p .user ++ after c b p rest w) (c .size) secondary-length
 
   pub secondary-is : c .dec (secondaryOf (c .size) (octetsOf c b p rest w)) ≡ p .secondary
-  secondary-is = ap (c .dec) secondary-octets ∙ k .dec-enc (w .beside) (p .secondary) (w .strict)
+  secondary-is = ap (c .dec) secondary-octets ∙ k .dec-enc (p .secondary) (w .fits)
 
   behind-secondary : drop (startOf c) (octetsOf c b p rest w) ≡ p .user ++ after c b p rest w
   behind-secondary =
@@ -127,7 +118,7 @@ take-two : (s : List ℕ) (n : ℕ) → n + 2 ≤ length s → take (n + 2) s �
 take-two s n h =
     take-add n 2 s ∙ rw (drop-cons s n 0 (omega arith), drop-cons s (suc n) 0 (omega arith))
 
-module _ {H : Type 0} (c : Codec H) (k : Laws c) (s : List ℕ) (n : ℕ) (o : Octets s) (f : FrameIs (startOf c) s true n) (g : SpacePacketHeader) (r : c .rule g (secondaryOf (c .size) s) ≡ gives tt) where
+module _ {H : Type 0} (c : Kind H) (k : KindLaws c) (s : List ℕ) (n : ℕ) (o : Octets s) (f : FrameIs (startOf c) s true n) (r : Taken c (secondaryOf (c .size) s)) where
   content-back : contentOf c (readAs c s n) ≡ take (n - 2) s
   unfolding readAs contentOf
   content-back =
@@ -135,10 +126,9 @@ module _ {H : Type 0} (c : Codec H) (k : Laws c) (s : List ℕ) (n : ℕ) (o : O
       let l : n ≤ length s = f .fits in
       let u = take (n - 2 - startOf c) (drop (startOf c) s) in
       let m : startOf c + (n - 2 - startOf c) ≡ n - 2 = omega arith in
-      let z = length-take-le (c .size) (drop 6 s) (rw length-drop (omega arith)) in
       sym (append-assoc (headerOctets (readHeader s)) (c .enc (c .dec (secondaryOf (c .size) s))) u)
       ∙ ap (λ (x : List ℕ). x ++ c .enc (c .dec (secondaryOf (c .size) s)) ++ u) (written-read s (omega arith) o)
-      ∙ ap (λ (x : List ℕ). take 6 s ++ x ++ u) (k .enc-dec g (secondaryOf (c .size) s) (octets-take (c .size) (drop 6 s) (octets-drop 6 s o)) z r)
+      ∙ ap (λ (x : List ℕ). take 6 s ++ x ++ u) (k .enc-dec (secondaryOf (c .size) s) r)
       ∙ ap (λ (x : List ℕ). x ++ u) (sym (take-add 6 (c .size) s))
       ∙ sym (take-add (startOf c) (n - 2 - startOf c) s)
       ∙ ap (λ (x : ℕ). take x s) m

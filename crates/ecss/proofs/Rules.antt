@@ -1,37 +1,54 @@
--- What it says that the strict checks of a telecommand pass, and when they do.
+-- What it says that the strict checks pass, and when they do: for every kind.
 use Prim.Native.Nat.{ℕ, _/_}
 use mathlib.Core.Path.{_≡_, refl, ap, _∙_}
-use mathlib.Core.Bool.{false, not}
+use mathlib.Core.Bool.{not}
+use mathlib.Core.List.{List}
 use native.Mathlib.Omega.{arith}
 use lib.Dec.{eqb}
+use lib.ListN.{getD}
 use borrow.Author.Tests.{eq-eqb, eqb-true, not-false}
-use Rattle.space_packet.specs.Answer.{gives}
+use Rattle.space_packet.specs.Answer.{Numbers, gives}
 use Rattle.space_packet.specs.Fields.{typeNumber}
 use Rattle.space_packet.specs.declared.SpacePacketHeader.{SpacePacketHeader}
 use Rattle.space_packet.specs.declared.PacketType.{PacketType}
 use Rattle.space_packet.specs.declared.PacketType.the-variants.{Tm, Tc}
-use Rattle.space_packet.proofs.Answers.{refuse-no, refuse-gives}
-use Rattle.ecss.specs.Codec.{commandRule, Command}
+use Rattle.space_packet.proofs.Answers.{refuse-no, refuse-gives, then-gives, gives-then}
+use Rattle.ecss.specs.Kind.{Kind, Primary, pusRule, strictRule}
 
-not-tm : (t : PacketType) → eqb (typeNumber t) 0 ≡ false → t ≡ Tc
-not-tm Tm e = absurd (let z : _≡_ {A = ℕ} 0 1 = cc in omega arith)
-not-tm Tc e = refl
+type-inj : (t u : PacketType) → typeNumber t ≡ typeNumber u → t ≡ u
+type-inj Tm Tm e = refl
+type-inj Tc Tc e = refl
+type-inj Tm Tc e = absurd (omega (arith, e))
+type-inj Tc Tm e = absurd (omega (arith, e))
 
-pub rule-command : (version : ℕ) (h : SpacePacketHeader) (octet : ℕ) → commandRule version h octet ≡ gives tt → Command h × (octet / 16 ≡ version)
-unfolding commandRule
-rule-command version h octet p =
-    let a = refuse-gives _ _ _ tt p in
-    let b = refuse-gives _ _ _ tt (a .1) in
-    let c = refuse-gives _ _ _ tt (b .1) in
-    let d = refuse-gives _ _ _ tt (c .1) in (
-      record { version-zero = eqb-true _ 0 (not-false _ (a .0)); telecommand = not-tm _ (b .0); has-secondary = not-false _ (c .0) },
-      eqb-true _ version (not-false _ (d .0)),
-    )
+module _ (type : PacketType) (other : Numbers) (version : ℕ) (h : SpacePacketHeader) (octet : ℕ) where
+  rule-primary : pusRule type other version h octet ≡ gives tt → Primary type h × (octet / 16 ≡ version)
+  unfolding pusRule
+  rule-primary p =
+      let a = refuse-gives _ _ _ tt p in
+      let b = refuse-gives _ _ _ tt (a .1) in
+      let c = refuse-gives _ _ _ tt (b .1) in
+      let d = refuse-gives _ _ _ tt (c .1) in (
+        record { version-zero = eqb-true _ 0 (not-false _ (a .0)); type-is = type-inj _ type (eqb-true _ _ (not-false _ (b .0))); has-secondary = not-false _ (c .0) },
+        eqb-true _ version (not-false _ (d .0)),
+      )
 
-pub command-rule : (version : ℕ) (h : SpacePacketHeader) (octet : ℕ) → Command h → octet / 16 ≡ version → commandRule version h octet ≡ gives tt
-unfolding commandRule
-command-rule version h octet k e =
-    refuse-no _ _ _ (ap not (eq-eqb (h .version) 0 (k .version-zero)))
-    ∙ refuse-no _ _ _ (ap (λ (t : PacketType). eqb (typeNumber t) 0) (k .telecommand))
-    ∙ refuse-no _ _ _ (ap not (k .has-secondary))
-    ∙ refuse-no _ _ _ (ap not (eq-eqb (octet / 16) version e))
+  primary-rule : Primary type h → octet / 16 ≡ version → pusRule type other version h octet ≡ gives tt
+  unfolding pusRule
+  primary-rule k e =
+      refuse-no _ _ _ (ap not (eq-eqb (h .version) 0 (k .version-zero)))
+      ∙ refuse-no _ _ _ (ap not (eq-eqb _ _ (ap typeNumber (k .type-is))))
+      ∙ refuse-no _ _ _ (ap not (k .has-secondary))
+      ∙ refuse-no _ _ _ (ap not (eq-eqb (octet / 16) version e))
+
+module _ {H : Type 0} (k : Kind H) (h : SpacePacketHeader) (l : List ℕ) where
+  pub strict-passes : Primary (k .type) h → getD l 0 0 / 16 ≡ k .version → k .rule l ≡ gives tt → strictRule k h l ≡ gives tt
+  unfolding strictRule
+  strict-passes p v r = gives-then _ _ tt (primary-rule (k .type) (k .other) (k .version) h (getD l 0 0) p v) ∙ r
+
+  pub strict-says : strictRule k h l ≡ gives tt → Primary (k .type) h × (getD l 0 0 / 16 ≡ k .version) × (k .rule l ≡ gives tt)
+  unfolding strictRule
+  strict-says p =
+      let a = then-gives (pusRule (k .type) (k .other) (k .version) h (getD l 0 0)) _ tt p in
+      let q = rule-primary (k .type) (k .other) (k .version) h (getD l 0 0) (a .1) in
+      (q .0, q .1, a .2)

@@ -5,9 +5,9 @@ use mathlib.Core.List.{List, [], _∷_, _++_}
 use native.Mathlib.Omega.{arith}
 use lib.ListN.{length, length-append}
 use Rattle.space_packet.specs.Bits.{be16}
-use Rattle.crc_step.specs.Crc.{crcOf}
-use Rattle.crc_step.proofs.Residue.{residue}
-use Rattle.crc_step.proofs.Zeros.{crcOf-lt}
+use Rattle.crc_register.specs.Crc.{crcOf}
+use Rattle.crc_register.proofs.Residue.{residue}
+use Rattle.crc_register.proofs.Zeros.{crcOf-lt}
 use Rattle.ecss.specs.Frame.{sealed}
 
 pub sealed-length : (l : List ℕ) → length (sealed l) ≡ length l + 2

@@ -5,8 +5,8 @@ use mathlib.Core.List.{List, [], _∷_, _++_}
 use lib.ListN.{length, getD, take, drop}
 use lib.Dec.{ltb, eqb}
 use Rattle.space_packet.specs.Bits.{be16, word}
-use Rattle.space_packet.specs.Answer.{Answer, Passed, no, gives, refuses, refuseIf, _then_}
-use Rattle.crc_step.specs.Crc.{crcOf}
+use Rattle.space_packet.specs.Answer.{Answer, Passed, refusal, gives, refuses, refuseIf, _then_}
+use Rattle.crc_register.specs.Crc.{crcOf}
 
 -- numbers that are octets
 abbrev pub Octets : List ℕ → Type 0
@@ -33,7 +33,7 @@ verifies s = eqb (crcOf s) 0
 
 -- or are refused with the number that is handed in
 abbrev pub verified : List ℕ → ℕ → Passed
-verified s stored = refuseIf (not (verifies s)) (no 4 (stored ∷ [])) (gives tt)
+verified s stored = refuseIf (not (verifies s)) (refusal 4 (stored ∷ [])) (gives tt)
 
 -- ---- reading
 
@@ -42,17 +42,17 @@ abbrev pub statedOf : List ℕ → ℕ
 statedOf s = word s 4 + 7
 
 -- with a checksum, the total has room for it behind the headers
-abbrev pub roomFor : ℕ → Bool → ℕ → Answer ℕ
-roomFor start true n = refuseIf (ltb n (start + 2)) (no 2 ((n - 2) ∷ start ∷ [])) (gives n)
-roomFor start false n = gives n
+abbrev pub checksumFits : ℕ → Bool → ℕ → Answer ℕ
+checksumFits start true n = refuseIf (ltb n (start + 2)) (refusal 2 ((n - 2) ∷ start ∷ [])) (gives n)
+checksumFits start false n = gives n
 
 -- the reader's order: fewer octets than the headers have; fewer than the stated total; a stated total below the
 -- headers; with a checksum, no room for it. The answer is the total.
 unfoldable pub frameOf : ℕ → List ℕ → Bool → Answer ℕ
 frameOf start s b =
-    refuseIf (ltb (length s) start) (no 2 (length s ∷ start ∷ []))
-    (refuseIf (ltb (length s) (statedOf s)) (no 2 (length s ∷ statedOf s ∷ []))
-    (refuseIf (ltb (statedOf s) start) (no 2 (statedOf s ∷ start ∷ [])) (roomFor start b (statedOf s))))
+    refuseIf (ltb (length s) start) (refusal 2 (length s ∷ start ∷ []))
+    (refuseIf (ltb (length s) (statedOf s)) (refusal 2 (length s ∷ statedOf s ∷ []))
+    (refuseIf (ltb (statedOf s) start) (refusal 2 (statedOf s ∷ start ∷ [])) (checksumFits start b (statedOf s))))
 
 -- the checksum that a packet of n octets stores
 abbrev pub storedOf : List ℕ → ℕ → ℕ

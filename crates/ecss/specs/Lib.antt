@@ -1,4 +1,3 @@
 pub mod Version
 pub mod Frame
-pub mod Write
-pub mod Codec
+pub mod Kind

@@ -4,7 +4,7 @@ use mathlib.Core.Bool.{true}
 use lib.Dec.{eqb}
 use mathlib.Core.List.{[], _∷_}
 use Rattle.space_packet.specs.Bits.{pick}
-use Rattle.space_packet.specs.Answer.{Answer, gives, refuses, no, numbersOf}
+use Rattle.space_packet.specs.Answer.{Answer, gives, refuses, refusal, numbersOf}
 use Rattle.ecss.specs.declared.PusVersion.{PusVersion}
 use Rattle.ecss.specs.declared.PusVersion.the-variants.{EsaPus, PusA, PusC}
 use Rattle.ecss.specs.declared.PusVersionResult.{PusVersionResult}
@@ -26,7 +26,7 @@ versionAnswer (R.Err e) = refuses (numbersOf e)
 unfoldable pub versionOf : ℕ → Answer PusVersion
 versionOf n =
     pick (eqb n 0) (gives EsaPus)
-    (pick (eqb n 1) (gives PusA) (pick (eqb n 2) (gives PusC) (refuses (no 3 (n ∷ [])))))
+    (pick (eqb n 1) (gives PusA) (pick (eqb n 2) (gives PusC) (refuses (refusal 3 (n ∷ [])))))
 
 abbrev pub messageType : ℕ → ℕ → MessageTypeId
 messageType t u = record { «type_id» = t; «subtype_id» = u }

@@ -1,12 +1,13 @@
 // What every PUS packet shares, after ECSS-E-ST-70-41C: its version, its message type, the verifying of its checksum, and
 // its frame.
 ghost use mathlib.Core.Path.{_≡_};
-ghost use Rattle.space_packet.specs.Answer.{checkAnswer};
+ghost use Rattle.space_packet.specs.Answer.{checkAnswer, numbersOf};
 ghost use Rattle.ecss.specs.Version.{versionNumber, versionAnswer, versionOf, messageType, defaultConfig};
 ghost use Rattle.ecss.specs.Frame.{verifies, verified};
-ghost use Rattle.ecss.specs.Codec.{commandRule};
+ghost use Rattle.ecss.specs.Kind.{pusRule};
 pub use space_packet::ByteConversionError;
 use space_packet::CheckResult;
+use space_packet::PacketType;
 pub use space_packet::PusError;
 use space_packet::SpHeader;
 
@@ -122,16 +123,24 @@ pub fn verify_crc16_ccitt_false_from_raw_no_table(raw_data: &[u8]) -> bool
     verify_crc16_ccitt_false_from_raw(raw_data)
 }
 
-// The strict checks of a telecommand of a PUS version, in their order; `octet` is the first of the secondary header.
-pub fn command_rule(version: u8, h: SpHeader, octet: u8) -> CheckResult
-    ensures { λ r. ⌜ checkAnswer r ≡ commandRule version h octet ⌝ }
+// The strict checks that every kind of packet shares, in their order; `octet` is the first of the secondary header, and a packet
+// of another type is refused with `other`.
+pub fn pus_rule(
+    packet_type: PacketType,
+    other: PusError,
+    version: u8,
+    h: SpHeader,
+    octet: u8,
+) -> CheckResult
+    ensures { λ r. ⌜ checkAnswer r ≡ pusRule «packet_type» (numbersOf other) version h octet ⌝ }
 {
     let number = h.version;
     if number != 0 {
         return CheckResult::Err(PusError::PacketVersion(number));
     }
-    if h.is_tm() {
-        return CheckResult::Err(PusError::PacketTypeTm);
+    let found = h.packet_type();
+    if found.raw_value() != packet_type.raw_value() {
+        return CheckResult::Err(other);
     }
     if !h.sec_header_flag() {
         return CheckResult::Err(PusError::NoSecondaryHeader);

@@ -1,4 +1,4 @@
--- A packet that was accepted is refused once bits of it are changed in a way that the checksum detects: for every codec.
+-- A packet that was accepted is refused once bits of it are changed in a way that the checksum detects: for every kind.
 use Prim.Native.Nat.{ℕ, suc}
 use mathlib.Core.Path.{_≡_, refl, sym, ap, ap₂, _∙_, subst}
 use mathlib.Core.List.{List, [], _∷_}
@@ -7,14 +7,14 @@ use native.Mathlib.Nat.{suc-inj}
 use lib.ListN.{length, take}
 use lib.Seq.{length-take-le}
 use Rattle.space_packet.specs.Answer.{Answer, Numbers, gives, refuses}
-use Rattle.crc_step.specs.Crc.{_⊕_, crcOf}
-use Rattle.crc_step.specs.Error.{addOctets}
-use Rattle.crc_step.proofs.Xor.{⊕-assoc, ⊕-self, zero-⊕}
-use Rattle.crc_step.proofs.Linear.{bitsOf-⊕}
-use Rattle.detect.specs.Error.{Detected}
+use Rattle.crc_register.specs.Crc.{_⊕_, crcOf}
+use Rattle.crc_register.specs.Added.{addOctets}
+use Rattle.crc_register.proofs.Xor.{⊕-assoc, ⊕-self, zero-⊕}
+use Rattle.crc_register.proofs.Linear.{bitsOf-⊕}
+use Rattle.detect.specs.Errors.{Detected}
 use Rattle.detect.proofs.Detect.{detects}
 use Rattle.ecss.specs.Frame.{statedOf}
-use Rattle.ecss.specs.Codec.{Codec, Packet, judge}
+use Rattle.ecss.specs.Kind.{Kind, Packet, judge}
 use Rattle.exactness.specs.Changed.{Changed, differences}
 use Rattle.exactness.proofs.Exact.{accepted}
 
@@ -43,10 +43,10 @@ not-both s t h d z z′ =
 
 -- ---- the verdict
 
-not-accepted : {H : Type 0} (c : Codec H) (s s′ : List ℕ) (p q : Packet H) → judge c s ≡ gives p → Changed s s′ (statedOf s) → judge c s′ ≡ gives q → ⊥
-not-accepted c s s′ p q h d h′ =
-    let a = accepted c s p h in
-    let a′ = accepted c s′ q h′ in
+not-accepted : {H : Type 0} (k : Kind H) (s s′ : List ℕ) (p q : Packet H) → judge k s ≡ gives p → Changed s s′ (statedOf s) → judge k s′ ≡ gives q → ⊥
+not-accepted k s s′ p q h d h′ =
+    let a = accepted k s p h in
+    let a′ = accepted k s′ q h′ in
     let e : statedOf s ≡ statedOf s′ = omega arith in
     let l = length-take-le (statedOf s) s (omega arith) in
     let l′ = length-take-le (statedOf s) s′ (omega arith) in
@@ -59,5 +59,5 @@ or-refused (gives x) f = absurd (f x refl)
 
 -- octets that agree with accepted ones in 4 and 5, and differ from them so inside their stated total, are refused,
 -- whatever follows the total, and also where they end before it
-pub refused : {H : Type 0} (c : Codec H) (s s′ : List ℕ) (p : Packet H) → judge c s ≡ gives p → Changed s s′ (statedOf s) → (n : Numbers) × (judge c s′ ≡ refuses n)
-refused c s s′ p h d = or-refused (judge c s′) (λ q. not-accepted c s s′ p q h d)
+pub refused : {H : Type 0} (k : Kind H) (s s′ : List ℕ) (p : Packet H) → judge k s ≡ gives p → Changed s s′ (statedOf s) → (n : Numbers) × (judge k s′ ≡ refuses n)
+refused k s s′ p h d = or-refused (judge k s′) (λ q. not-accepted k s s′ p q h d)

@@ -7,11 +7,11 @@ use native.Mathlib.Omega.{arith}
 use native.Mathlib.Nat.{suc-inj, zero-add}
 use lib.ListN.{length, getD, List·getD-append}
 use lib.Seq.{getD-append-add}
-use Rattle.crc_step.specs.Crc.{_⊕_, differs, bit, octetBits, bitsOf}
-use Rattle.crc_step.specs.Error.{addOctets}
-use Rattle.crc_step.proofs.Below.{same-below}
-use Rattle.crc_step.proofs.Xor.{⊕-zero, bit-shr}
-use Rattle.crc_step.proofs.Linear.{bitsOf-⊕}
+use Rattle.crc_register.specs.Crc.{_⊕_, differs, bit, octetBits, bitsOf}
+use Rattle.crc_register.specs.Added.{addOctets}
+use Rattle.crc_register.proofs.Below.{same-below}
+use Rattle.crc_register.proofs.Xor.{⊕-zero, bit-shr}
+use Rattle.crc_register.proofs.Linear.{bitsOf-⊕}
 use Rattle.exactness.specs.Changed.{differences}
 
 octet-place : (o k : ℕ) → k < 8 → getD (octetBits o) k false ≡ bit (o / 2 ^ (7 - k))

@@ -5,9 +5,9 @@ use mathlib.Core.Path.{_≡_}
 use mathlib.Core.Bool.{Bool}
 use mathlib.Core.List.{List}
 use lib.ListN.{getD, take}
-use Rattle.crc_step.specs.Crc.{bitsOf}
-use Rattle.crc_step.specs.Error.{addBits}
-use Rattle.detect.specs.Error.{Detected}
+use Rattle.crc_register.specs.Crc.{bitsOf}
+use Rattle.crc_register.specs.Added.{addBits}
+use Rattle.detect.specs.Errors.{Detected}
 
 -- the row of bits that is set where the bits of two rows of octets differ
 abbrev pub differences : List ℕ → List ℕ → List Bool

@@ -2,9 +2,6 @@
 use ecss::CreatorConfig;
 use ecss::MessageTypeId;
 use ecss::PusError;
-use ecss_tc::PusTcBuilder;
-use ecss_tc::PusTcCreator;
-use ecss_tc::PusTcCreatorResult;
 use libc::STDOUT_FILENO;
 use space_packet::Apid;
 use space_packet::ApidResult;
@@ -12,11 +9,14 @@ use space_packet::SeqCount;
 use space_packet::SeqCountResult;
 use space_packet::SizeResult;
 use space_packet::SpHeader;
-use strict::Verdict;
 use tc_header::PusTcSecondaryHeader;
 use tc_read::PusTcRecord;
 use tc_reserved::PusTcCreatorWithReservedAppData;
 use tc_reserved::ReservedResult;
+use tc_strict::Verdict;
+use tc_write::PusTcBuilder;
+use tc_write::PusTcCreator;
+use tc_write::PusTcCreatorResult;
 
 fn say(text: &[u8]) {
     io::write_all(STDOUT_FILENO, text);
@@ -93,7 +93,7 @@ fn say_written(written: SizeResult, octets: &[u8]) {
 }
 
 fn judge(octets: &[u8]) {
-    let verdict = strict::judge(octets);
+    let verdict = tc_strict::judge(octets);
     match verdict {
         Verdict::Refused(e) => say_refusal(e),
         Verdict::Accepted(record) => {

@@ -1,7 +1,6 @@
 // The requests on primary headers.
 use crate::fields;
 use crate::show;
-use ecss_tc::PUS_TC_MIN_LEN_WITHOUT_APP_DATA;
 use space_packet::CheckResult;
 use space_packet::MAX_APID;
 use space_packet::MAX_SEQ_COUNT;
@@ -11,6 +10,7 @@ use space_packet::SpHeaderResult;
 use tc_header::AckFlags;
 use tc_header::AckFlagsResult;
 use tc_header::PusTcSecondaryHeader;
+use tc_write::PUS_TC_MIN_LEN_WITHOUT_APP_DATA;
 
 // sphread DATA
 pub(crate) fn read(s: &[u8]) {

@@ -66,8 +66,8 @@ pub(crate) fn compare(v: [u64; 18], s: &[u8], t: &[u8]) {
 
 fn compared(s: &[u8], has: bool, t: &[u8], other_has: bool) {
     let v = [
-        tc_read::eq_reader(s, has, t, other_has) as u64,
-        tc_read::eq_reader(t, other_has, s, has) as u64,
+        tc_compare::eq_reader(s, has, t, other_has) as u64,
+        tc_compare::eq_reader(t, other_has, s, has) as u64,
     ];
     show::list(b"", 32, &v, 2);
 }

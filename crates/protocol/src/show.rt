@@ -1,5 +1,4 @@
 // What answers are made of, each part written out as it comes.
-use space_packet::ByteConversionError;
 use space_packet::CheckResult;
 use space_packet::PusError;
 use space_packet::SizeResult;
@@ -79,48 +78,20 @@ fn hex(s: &[u8]) {
 
 // ---- refusals
 
-// A refusal's number, its values, and how many there are of all these.
-fn numbers_of(e: PusError) -> [u64; 4] {
-    match e {
-        PusError::ByteConversion(c) => conversion(c),
-        PusError::VersionNotSupported(nibble) => [3, nibble as u64, 0, 2],
-        PusError::ChecksumFailure(stored) => [4, stored as u64, 0, 2],
-        PusError::CrcCalculationMissing => [5, 0, 0, 1],
-        PusError::PacketTooLong(length) => [6, length as u64, 0, 2],
-        PusError::FieldRange { place, value } => [7, place as u64, value as u64, 3],
-        PusError::Reservation => [8, 0, 0, 1],
-        PusError::PacketVersion(version) => [9, version as u64, 0, 2],
-        PusError::PacketTypeTm => [10, 0, 0, 1],
-        PusError::NoSecondaryHeader => [11, 0, 0, 1],
-    }
-}
-
-fn conversion(e: ByteConversionError) -> [u64; 4] {
-    match e {
-        ByteConversionError::ToSliceTooSmall { found, expected } => [
-            1,
-            found as u64,
-            expected as u64,
-            3,
-        ],
-        ByteConversionError::FromSliceTooSmall { found, expected } => [
-            2,
-            found as u64,
-            expected as u64,
-            3,
-        ],
-    }
-}
-
 // err: and the number, then each value after a colon; a checksum in hexadecimal.
 pub(crate) fn refusal(e: PusError) {
-    let v = numbers_of(e);
-    if v[0] == 4 {
+    let r = e.numbers();
+    let v = [r.number as u64, r.first, r.second];
+    if r.number == 4 {
         say(b"err:4:");
-        return word((v[1] % 65536) as u16);
+        return word((r.first % 65536) as u16);
     }
-    let n = v[3] as usize;
-    list(b"err:", 58, &v, n)
+    let count = r.count;
+    match count {
+        0 => list(b"err:", 58, &v, 1),
+        1 => list(b"err:", 58, &v, 2),
+        _ => list(b"err:", 58, &v, 3),
+    }
 }
 
 // `ok` or the refusal.

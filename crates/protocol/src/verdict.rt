@@ -1,13 +1,13 @@
 // The requests on the strict verdict and the splitter, which the crate does not have.
 use crate::read;
 use crate::show;
-use strict::Verdict;
-use strict::split::Cursor;
-use strict::split::Step;
+use tc_strict::Verdict;
+use tc_strict::split::Cursor;
+use tc_strict::split::Step;
 
 // strict DATA
 pub(crate) fn judge(s: &[u8]) {
-    let v = strict::judge(s);
+    let v = tc_strict::judge(s);
     match v {
         Verdict::Refused(e) => show::refusal(e),
         Verdict::Accepted(record) => read::report(b"accept ", record),

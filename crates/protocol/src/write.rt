@@ -6,12 +6,6 @@ use crate::show;
 use ecss::CreatorConfig;
 use ecss::MessageTypeId;
 use ecss::PusVersion;
-use ecss_tc::CrcResult;
-use ecss_tc::PusTcBuilder;
-use ecss_tc::PusTcBuilderSet;
-use ecss_tc::PusTcCreator;
-use ecss_tc::PusTcCreatorResult;
-use ecss_tc::PusTcCreatorSet;
 use reserve::BoundsResult;
 use space_packet::Apid;
 use space_packet::ApidResult;
@@ -26,6 +20,12 @@ use tc_header::PusTcSecondaryHeader;
 use tc_read::PusTcRecordResult;
 use tc_reserved::PusTcCreatorWithReservedAppData;
 use tc_reserved::ReservedResult;
+use tc_write::CrcResult;
+use tc_write::PusTcBuilder;
+use tc_write::PusTcBuilderSet;
+use tc_write::PusTcCreator;
+use tc_write::PusTcCreatorResult;
+use tc_write::PusTcCreatorSet;
 
 // ---- the creator
 
@@ -415,7 +415,7 @@ fn compared(r: PusTcCreatorResult, data: &[u8], slice: &[u8], has_checksum: bool
     match r {
         PusTcCreatorResult::Err(e) => show::refusal(e),
         PusTcCreatorResult::Ok(c) => {
-            let same = tc_read::eq_creator(slice, has_checksum, c, data) as u64;
+            let same = tc_compare::eq_creator(slice, has_checksum, c, data) as u64;
             show::list(b"", 32, &[same, same], 2);
         }
     }

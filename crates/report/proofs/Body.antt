@@ -8,7 +8,7 @@ use lib.ListN.{length}
 use Rattle.text.specs.Ascii.{ascii}
 use Rattle.text.specs.Digits.{decimal}
 use Rattle.space_packet.specs.Bits.{pick}
-use Rattle.strict.specs.Split.{walk}
+use Rattle.tc_strict.specs.Split.{walk}
 use Rattle.report.specs.Report.{linesOf, bodyText}
 
 abbrev whole : List ℕ → List ℕ

@@ -6,10 +6,10 @@ use native.Mathlib.Omega.{arith}
 use lib.ListN.{length}
 use Rattle.text.specs.Page.{Page, laid}
 use Rattle.text.proofs.Pages.{and-then}
-use Rattle.strict.specs.Split.{Piece, Next, end, piece, lengthOf, stepAnswer, stepOf, continue, walkFrom}
-use Rattle.strict.specs.declared.split.Step.{Step}
-use Rattle.strict.specs.declared.split.Step.the-variants as S
-use Rattle.strict.proofs.Pieces.{step-end, step-is, ended-is}
+use Rattle.tc_strict.specs.Split.{Piece, Next, end, piece, lengthOf, stepAnswer, stepOf, continue, walkFrom}
+use Rattle.tc_strict.specs.declared.split.Step.{Step}
+use Rattle.tc_strict.specs.declared.split.Step.the-variants as S
+use Rattle.tc_strict.proofs.Pieces.{step-end, step-is, ended-is}
 use Rattle.report.specs.Report.{lineOf, linesOf, stepText, behind}
 
 -- where the next piece begins, by the definition of the walk

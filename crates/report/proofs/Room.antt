@@ -14,14 +14,14 @@ use Rattle.space_packet.specs.Answer.{Numbers, Answer, gives, refuses, refuseIf
 use Rattle.space_packet.specs.Bits.{pick}
 use Rattle.space_packet.specs.declared.SpacePacketHeader.{SpacePacketHeader}
 use Rattle.ecss.specs.Frame.{Octets, statedOf, frameOf, checkedOf}
-use Rattle.ecss.specs.Codec.{commandRule, judge}
+use Rattle.ecss.specs.Kind.{pusRule, strictRule, judge}
 use Rattle.ecss.proofs.Pieces.{octets-take, octets-drop}
 use Rattle.tc_header.specs.Header.{pusC, secOf}
-use Rattle.tc_read.specs.Read.{recordOf}
+use Rattle.tc_read.specs.Read.{startC, recordOf}
 use Rattle.tc_read.specs.declared.PusTcRecord.{PusTcRecord}
-use Rattle.strict.specs.Verdict.{strictOf}
-use Rattle.strict.specs.Split.{packet, tail, Next, end, piece, stepOf, continue, walkFrom, walk}
-use Rattle.strict.proofs.Pieces.{step-is}
+use Rattle.tc_strict.specs.Verdict.{strictOf}
+use Rattle.tc_strict.specs.Split.{packet, tail, Next, end, piece, stepOf, continue, walkFrom, walk}
+use Rattle.tc_strict.proofs.Pieces.{step-is}
 use Rattle.report.specs.Report.{twoText, verdictText, lineOf, linesOf, bodyText, reportText, room}
 use Rattle.report.proofs.Lines.{none-left}
 
@@ -45,24 +45,25 @@ unfolding _then_
 small-then P (gives x) f s k = k x
 small-then P (refuses e) f s k = s
 
-small-frame : (s : List ℕ) → Free (frameOf 11 s true)
+small-frame : (s : List ℕ) → Free (frameOf startC s true)
 unfolding frameOf
 small-frame s =
     free-if _ _ _ (omega arith) (free-if _ _ _ (omega arith) (free-if _ _ _ (omega arith) (free-if _ _ _ (omega arith) tt)))
 
-small-checked : (s : List ℕ) → Free (checkedOf 11 s)
+small-checked : (s : List ℕ) → Free (checkedOf startC s)
 unfolding checkedOf
 small-checked s =
-    small-then _ (frameOf 11 s true) _ (small-frame s) (λ n. small-then _ _ _ (free-if _ _ _ (omega arith) tt) (λ _. tt))
+    small-then _ (frameOf startC s true) _ (small-frame s) (λ n. small-then _ _ _ (free-if _ _ _ (omega arith) tt) (λ _. tt))
 
-small-rule : (h : SpacePacketHeader) (octet : ℕ) → Free (commandRule 2 h octet)
-unfolding commandRule
-small-rule h octet =
-    free-if _ _ _ (omega arith) (free-if _ _ _ (omega arith) (free-if _ _ _ (omega arith) (free-if _ _ _ (omega arith) tt)))
+small-rule : (h : SpacePacketHeader) (l : List ℕ) → Free (strictRule pusC h l)
+unfolding pusRule strictRule
+small-rule h l =
+    small-then _ _ _
+    (free-if _ _ _ (omega arith) (free-if _ _ _ (omega arith) (free-if _ _ _ (omega arith) (free-if _ _ _ (omega arith) tt)))) (λ _. tt)
 
 small-judge : (s : List ℕ) → Free (judge pusC s)
 unfolding judge
-small-judge s = small-then _ (checkedOf 11 s) _ (small-checked s) (λ n. small-then _ _ _ (small-rule _ _) (λ _. tt))
+small-judge s = small-then _ (checkedOf startC s) _ (small-checked s) (λ n. small-then _ _ _ (small-rule _ _) (λ _. tt))
 
 abbrev service : PusTcRecord → ℕ
 service r = r .«sec_header» .«message_type_id» .«type_id»
@@ -74,7 +75,7 @@ subtype r = r .«sec_header» .«message_type_id» .«subtype_id»
 small-record : (s : List ℕ) (n : ℕ) → Octets s → (service (recordOf s true n) < 1000) × (subtype (recordOf s true n) < 1000)
 unfolding recordOf secOf
 small-record s n o =
-    let q = octets-take 5 (drop 6 s) (octets-drop 6 s o) in
+    let q = octets-take (pusC .size) (drop 6 s) (octets-drop 6 s o) in
     let x = q 1 in
     let y = q 2 in
     (omega arith, omega arith)

@@ -10,9 +10,9 @@ use Rattle.text.specs.Page.{page, front}
 use Rattle.space_packet.specs.Answer.{Answer, gives, refuses}
 use Rattle.space_packet.specs.Bits.{pick}
 use Rattle.tc_read.specs.declared.PusTcRecord.{PusTcRecord}
-use Rattle.strict.specs.Split.{Piece, packet, tail, Next, end, piece, walk}
-use Rattle.strict.specs.declared.split.Step.{Step}
-use Rattle.strict.specs.declared.split.Step.the-variants as S
+use Rattle.tc_strict.specs.Split.{Piece, packet, tail, Next, end, piece, walk}
+use Rattle.tc_strict.specs.declared.split.Step.{Step}
+use Rattle.tc_strict.specs.declared.split.Step.the-variants as S
 
 -- two numbers, and a space between them
 unfoldable pub twoText : ℕ → ℕ → List ℕ

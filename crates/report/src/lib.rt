@@ -4,15 +4,15 @@ ghost use Prim.Native.Nat.{_≤_};
 ghost use lib.ListN.{length, take};
 ghost use Rattle.io.specs.Counts.{Counts};
 ghost use Rattle.text.specs.Page.{page, laid};
-ghost use Rattle.strict.specs.Verdict.{verdictAnswer};
-ghost use Rattle.strict.specs.Split.{stepAnswer, walk};
+ghost use Rattle.tc_strict.specs.Verdict.{verdictAnswer};
+ghost use Rattle.tc_strict.specs.Split.{stepAnswer, walk};
 ghost use Rattle.report.specs.Report.{twoText, verdictText, stepText, behind, linesOf, bodyText, Rendered, room};
 ghost use Rattle.report.specs.Program.{inputOf, Within, printed};
 use libc::EINTR;
 use libc::STDOUT_FILENO;
-use strict::Verdict;
-use strict::split::Cursor;
-use strict::split::Step;
+use tc_strict::Verdict;
+use tc_strict::split::Cursor;
+use tc_strict::split::Step;
 
 // ---- the report, laid into a buffer: each call goes on at `at`, and answers the place after what it laid
 

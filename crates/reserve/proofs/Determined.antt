@@ -5,10 +5,6 @@ use Rattle.reserve.specs.Reserve.{boundsAnswer}
 use Rattle.reserve.specs.declared.BoundsResult.{BoundsResult}
 use Rattle.reserve.specs.declared.BoundsResult.the-variants as B
 
-bounds-back : (r : BoundsResult) → resultOf B.Ok B.Err (boundsAnswer r) ≡ r
-unfolding resultOf
-bounds-back (B.Ok b) = refl
-bounds-back (B.Err e) = ap B.Err (error-back e)
-
 pub bounds-inj : (x y : BoundsResult) → boundsAnswer x ≡ boundsAnswer y → x ≡ y
-bounds-inj = by-inverse boundsAnswer (resultOf B.Ok B.Err) bounds-back
+unfolding resultOf
+bounds-inj = by-inverse boundsAnswer (resultOf B.Ok B.Err) (elim [ B.Ok b ↦ refl | B.Err e ↦ ap B.Err (error-back e) ])

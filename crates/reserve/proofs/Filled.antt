@@ -13,9 +13,9 @@ use Rattle.space_packet.specs.Wrote.{Wrote}
 use Rattle.space_packet.specs.declared.SizeResult.{SizeResult}
 use Rattle.space_packet.proofs.Answers.{gives-then, left-written}
 use Rattle.ecss.specs.Frame.{trailer, sealed, closed}
-use Rattle.ecss.specs.Write.{inBuffer, writeIn}
-use Rattle.ecss.proofs.Frames.{in-buffer-is, total-write}
-use Rattle.ecss.proofs.Parts.{mid-filled}
+use Rattle.ecss_write.specs.Write.{inBuffer, writeIn}
+use Rattle.ecss_write.proofs.Totals.{in-buffer-is, total-write}
+use Rattle.ecss_write.proofs.Parts.{mid-filled}
 use Rattle.reserve.specs.Reserve.{fillIn, filledBy, holdsIn, finishIn, finished}
 use Rattle.reserve.specs.declared.Reservation.{Reservation}
 use Rattle.reserve.specs.declared.Bounds.{Bounds}

@@ -4,9 +4,9 @@ use mathlib.Core.Bool.{not}
 use mathlib.Core.List.{List, [], _++_}
 use lib.ListN.{length, take, drop}
 use lib.Dec.{ltb, eqb}
-use Rattle.space_packet.specs.Answer.{Answer, Passed, no, gives, refuses, refuseIf, _then_, numbersOf}
+use Rattle.space_packet.specs.Answer.{Answer, Passed, refusal, gives, refuses, refuseIf, _then_, numbersOf}
 use Rattle.ecss.specs.Frame.{trailer, closed}
-use Rattle.ecss.specs.Write.{inBuffer}
+use Rattle.ecss_write.specs.Write.{inBuffer}
 use Rattle.reserve.specs.declared.Reservation.{Reservation}
 use Rattle.reserve.specs.declared.Bounds.{Bounds}
 use Rattle.reserve.specs.declared.BoundsResult.{BoundsResult}
@@ -19,9 +19,9 @@ endOf r = r .total - trailer (r .«has_checksum»)
 -- it holds together: the data starts at `start`, the total has room for headers and checksum, and a length field states it
 unfoldable pub holds : ℕ → Reservation → Passed
 holds start r =
-    refuseIf (not (eqb (r .start) start)) (no 8 [])
-    (refuseIf (ltb (r .total) (start + trailer (r .«has_checksum»))) (no 8 [])
-    (refuseIf (ltb 65542 (r .total)) (no 8 []) (gives tt)))
+    refuseIf (not (eqb (r .start) start)) (refusal 8 [])
+    (refuseIf (ltb (r .total) (start + trailer (r .«has_checksum»))) (refusal 8 [])
+    (refuseIf (ltb 65542 (r .total)) (refusal 8 []) (gives tt)))
 
 -- 8, then 1 for a buffer of m octets that has no room
 unfoldable pub holdsIn : ℕ → Reservation → ℕ → Passed
@@ -69,5 +69,5 @@ abbrev pub finished : Reservation → List ℕ → List ℕ
 finished r before = closed (r .«has_checksum») (take (endOf r) before)
 
 -- finishing without a checksum answers the total less its two octets
-unfoldable pub plainIn : ℕ → Reservation → ℕ → Answer ℕ
-plainIn start r m = holdsIn start r m then λ _. gives (endOf r)
+unfoldable pub bareIn : ℕ → Reservation → ℕ → Answer ℕ
+bareIn start r m = holdsIn start r m then λ _. gives (endOf r)

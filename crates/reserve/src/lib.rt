@@ -1,13 +1,12 @@
 // A packet whose headers stand in a buffer and whose data is filled in there: a reservation by value, the buffer lent again
-// to each call. Each call takes the size of the secondary header. A reservation that does not hold together is 8; then, where a
-// buffer is lent, 1.
+// to each call. Each call takes the octet at which the data of its kind starts. A reservation that does not hold together is 8;
+// then, where a buffer is lent, 1.
 ghost use mathlib.Core.Path.{_≡_};
 ghost use Prim.Native.Nat.{_+_};
 ghost use lib.ListN.{length};
 ghost use Rattle.space_packet.specs.Answer.{sizeAnswer, checkAnswer};
 ghost use Rattle.space_packet.specs.Wrote.{Wrote};
-ghost use Rattle.ecss.specs.Frame.{trailer};
-ghost use Rattle.reserve.specs.Reserve.{holds, holdsIn, dataLenOf, boundsOf, boundsAnswer, within, beginsAt, fillIn, filledBy, finishIn, finished, plainIn};
+ghost use Rattle.reserve.specs.Reserve.{holds, holdsIn, dataLenOf, boundsOf, boundsAnswer, within, beginsAt, fillIn, filledBy, finishIn, finished, bareIn};
 use ecss::frame;
 use space_packet::ByteConversionError;
 use space_packet::CheckResult;
@@ -34,35 +33,31 @@ pub enum BoundsResult {
 }
 
 impl Reservation {
-    fn trailer(self) -> usize
-        ensures { λ r. ⌜ r ≡ trailer (self .«has_checksum») ⌝ }
-    {
-        if self.has_checksum { 2 } else { 0 }
-    }
-
     // 8 where the reservation does not hold together.
-    fn check(self, size: u8) -> CheckResult
-        ensures { λ r. ⌜ checkAnswer r ≡ holds (6 + size) self ⌝ }
+    fn check(self, start: usize) -> CheckResult
+        ensures { λ r. ⌜ checkAnswer r ≡ holds start self ⌝ }
     {
-        let start = 6 + size as usize;
         let total = self.total;
         if self.start != start {
             return CheckResult::Err(PusError::Reservation);
         }
-        if total < start + self.trailer() {
+        if total < start {
             return CheckResult::Err(PusError::Reservation);
         }
-        if 65542 < total {
+        if total - start < frame::trailer_len(self.has_checksum) {
+            return CheckResult::Err(PusError::Reservation);
+        }
+        if ecss_write::MAX_TOTAL < total {
             return CheckResult::Err(PusError::Reservation);
         }
         CheckResult::Ok
     }
 
     // 8, then 1 where a buffer of `found` octets has no room for it.
-    fn check_in(self, size: u8, found: usize) -> CheckResult
-        ensures { λ r. ⌜ checkAnswer r ≡ holdsIn (6 + size) self found ⌝ }
+    fn check_in(self, start: usize, found: usize) -> CheckResult
+        ensures { λ r. ⌜ checkAnswer r ≡ holdsIn start self found ⌝ }
     {
-        let c = self.check(size);
+        let c = self.check(start);
         match c {
             CheckResult::Err(e) => CheckResult::Err(e),
             CheckResult::Ok => {
@@ -79,35 +74,37 @@ impl Reservation {
     }
 
     // How long the data is.
-    pub fn data_len(self, size: u8) -> SizeResult
-        ensures { λ r. ⌜ sizeAnswer r ≡ dataLenOf (6 + size) self ⌝ }
+    pub fn data_len(self, start: usize) -> SizeResult
+        ensures { λ r. ⌜ sizeAnswer r ≡ dataLenOf start self ⌝ }
     {
-        let c = self.check(size);
+        let c = self.check(start);
         match c {
             CheckResult::Err(e) => SizeResult::Err(e),
-            CheckResult::Ok => SizeResult::Ok(self.total - self.trailer() - self.start),
+            CheckResult::Ok => SizeResult::Ok(
+                self.total - frame::trailer_len(self.has_checksum) - self.start,
+            ),
         }
     }
 
     // Where the data lies in a buffer of `found` octets.
-    pub fn bounds(self, size: u8, found: usize) -> BoundsResult
-        ensures { λ r. ⌜ boundsAnswer r ≡ boundsOf (6 + size) self found ⌝ }
+    pub fn bounds(self, start: usize, found: usize) -> BoundsResult
+        ensures { λ r. ⌜ boundsAnswer r ≡ boundsOf start self found ⌝ }
     {
-        let c = self.check_in(size, found);
+        let c = self.check_in(start, found);
         match c {
             CheckResult::Err(e) => BoundsResult::Err(e),
             CheckResult::Ok => BoundsResult::Ok(Bounds {
                 start: self.start,
-                end: self.total - self.trailer(),
+                end: self.total - frame::trailer_len(self.has_checksum),
             }),
         }
     }
 
     // The data, to be read; the empty part where it is refused.
-    pub fn part(self, size: u8, buf: &[u8]) -> &[u8]
-        ensures { λ r. ⌜ now r ≡ within (boundsOf (6 + size) self (length (now (buf .entry)))) (now (buf .entry)) ⌝ }
+    pub fn part(self, start: usize, buf: &[u8]) -> &[u8]
+        ensures { λ r. ⌜ now r ≡ within (boundsOf start self (length (now (buf .entry)))) (now (buf .entry)) ⌝ }
     {
-        let b = self.bounds(size, buf.len());
+        let b = self.bounds(start, buf.len());
         match b {
             BoundsResult::Err(_) => &buf[..0],
             BoundsResult::Ok(at) => {
@@ -120,11 +117,11 @@ impl Reservation {
 
     // The data, to be written; the empty part where it is refused. The buffer is lent on with the part, so no contract can
     // say what the rest of it holds, nor what a refused call leaves in it: `fill` has every octet fixed.
-    pub fn part_mut(self, size: u8, buf: &mut [u8]) -> &mut [u8]
-        ensures { λ r. ⌜ (now r ≡ within (boundsOf (6 + size) self (length (now (buf .entry)))) (now (buf .entry)))
-            × ((r .ptr .0 ≡ buf .entry .ptr .0) × (r .ptr .1 ≡ buf .entry .ptr .1 + beginsAt (boundsOf (6 + size) self (length (now (buf .entry)))))) ⌝ }
+    pub fn part_mut(self, start: usize, buf: &mut [u8]) -> &mut [u8]
+        ensures { λ r. ⌜ (now r ≡ within (boundsOf start self (length (now (buf .entry)))) (now (buf .entry)))
+            × ((r .ptr .0 ≡ buf .entry .ptr .0) × (r .ptr .1 ≡ buf .entry .ptr .1 + beginsAt (boundsOf start self (length (now (buf .entry)))))) ⌝ }
     {
-        let b = self.bounds(size, buf.len());
+        let b = self.bounds(start, buf.len());
         match b {
             BoundsResult::Err(_) => &mut buf[..0],
             BoundsResult::Ok(at) => {
@@ -136,30 +133,30 @@ impl Reservation {
     }
 
     // Lends the buffer's middle on to be filled with `data` from its start; 1 where there is more data than was reserved.
-    pub fn fill(self, size: u8, data: &[u8], buf: &mut [u8]) -> SizeResult
-        ensures { λ r. ⌜ (sizeAnswer r ≡ fillIn (6 + size) self (length (now (buf .entry))) (length (now («data» .entry)))) × (now (buf .exit) ≡ filledBy (fillIn (6 + size) self (length (now (buf .entry))) (length (now («data» .entry)))) (6 + size) (now («data» .entry)) (now (buf .entry))) ⌝ }
+    pub fn fill(self, start: usize, data: &[u8], buf: &mut [u8]) -> SizeResult
+        ensures { λ r. ⌜ (sizeAnswer r ≡ fillIn start self (length (now (buf .entry))) (length (now («data» .entry)))) × (now (buf .exit) ≡ filledBy (fillIn start self (length (now (buf .entry))) (length (now («data» .entry)))) start (now («data» .entry)) (now (buf .entry))) ⌝ }
     {
-        let b = self.bounds(size, buf.len());
+        let b = self.bounds(start, buf.len());
         match b {
             BoundsResult::Err(e) => SizeResult::Err(e),
             BoundsResult::Ok(at) => {
                 let start = at.start;
                 let end = at.end;
-                frame::fill(&mut buf[start..end], data)
+                ecss_write::fill(&mut buf[start..end], data)
             }
         }
     }
 
     // Writes the checksum, where there is one, over what the buffer holds; the answer is the total.
-    pub fn finalize(self, size: u8, buf: &mut [u8]) -> SizeResult
-        ensures { λ r. ⌜ Wrote (finishIn (6 + size) self (length (now (buf .entry)))) (finished self (now (buf .entry))) (now (buf .entry)) r (now (buf .exit)) ⌝ }
+    pub fn finalize(self, start: usize, buf: &mut [u8]) -> SizeResult
+        ensures { λ r. ⌜ Wrote (finishIn start self (length (now (buf .entry)))) (finished self (now (buf .entry))) (now (buf .entry)) r (now (buf .exit)) ⌝ }
     {
-        let c = self.check_in(size, buf.len());
+        let c = self.check_in(start, buf.len());
         match c {
             CheckResult::Err(e) => SizeResult::Err(e),
             CheckResult::Ok => {
                 if self.has_checksum {
-                    return frame::seal(size, self.total - 2 - self.start, buf);
+                    return ecss_write::seal(start, self.total - 2 - self.start, buf);
                 }
                 SizeResult::Ok(self.total)
             }
@@ -167,13 +164,13 @@ impl Reservation {
     }
 
     // Writes nothing; the answer is the total less the checksum's place.
-    pub fn finalize_no_checksum(self, size: u8, buf: &[u8]) -> SizeResult
-        ensures { λ r. ⌜ sizeAnswer r ≡ plainIn (6 + size) self (length (now (buf .entry))) ⌝ }
+    pub fn finalize_no_checksum(self, start: usize, buf: &[u8]) -> SizeResult
+        ensures { λ r. ⌜ sizeAnswer r ≡ bareIn start self (length (now (buf .entry))) ⌝ }
     {
-        let c = self.check_in(size, buf.len());
+        let c = self.check_in(start, buf.len());
         match c {
             CheckResult::Err(e) => SizeResult::Err(e),
-            CheckResult::Ok => SizeResult::Ok(self.total - self.trailer()),
+            CheckResult::Ok => SizeResult::Ok(self.total - frame::trailer_len(self.has_checksum)),
         }
     }
 }

@@ -52,6 +52,12 @@ pub refuses-then : {A B : Type 0} (a : Answer A) (f : A → Answer B) (e : Numbe
 unfolding _then_
 refuses-then a f e p = ap (λ (z : Answer _). z then f) p
 
+-- a check that passes what another says is that check
+pub then-same : (p : Passed) → (p then λ _. gives tt) ≡ p
+unfolding _then_
+then-same (gives u) = refl
+then-same (refuses e) = refl
+
 -- a setter keeps the new record where it passed, and the old where it was refused
 pub kept-new : {A : Type 0} (a p : Passed) (old new : A) → a ≡ p → p ≡ gives tt → record { passed = a; kept = new } ≡ setIf p old new
 unfolding setIf

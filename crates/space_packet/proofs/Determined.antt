@@ -23,45 +23,25 @@ use Rattle.space_packet.specs.declared.SpHeaderResult.{SpHeaderResult}
 use Rattle.space_packet.specs.declared.SpHeaderResult.the-variants as H
 use Rattle.space_packet.proofs.Answers.{by-inverse, resultOf, error-back}
 
-check-back : (r : CheckResult) → resultOf (λ u. C.Ok) C.Err (checkAnswer r) ≡ r
-unfolding resultOf
-check-back C.Ok = refl
-check-back (C.Err e) = ap C.Err (error-back e)
-
 pub check-inj : (x y : CheckResult) → checkAnswer x ≡ checkAnswer y → x ≡ y
-check-inj = by-inverse checkAnswer (resultOf (λ u. C.Ok) C.Err) check-back
-
-size-back : (r : SizeResult) → resultOf S.Ok S.Err (sizeAnswer r) ≡ r
 unfolding resultOf
-size-back (S.Ok n) = refl
-size-back (S.Err e) = ap S.Err (error-back e)
+check-inj = by-inverse checkAnswer (resultOf (λ u. C.Ok) C.Err) (elim [ C.Ok ↦ refl | C.Err e ↦ ap C.Err (error-back e) ])
 
 pub size-inj : (x y : SizeResult) → sizeAnswer x ≡ sizeAnswer y → x ≡ y
-size-inj = by-inverse sizeAnswer (resultOf S.Ok S.Err) size-back
-
-apid-back : (r : ApidResult) → resultOf A.Ok A.Err (apidAnswer r) ≡ r
 unfolding resultOf
-apid-back (A.Ok a) = refl
-apid-back (A.Err e) = ap A.Err (error-back e)
+size-inj = by-inverse sizeAnswer (resultOf S.Ok S.Err) (elim [ S.Ok n ↦ refl | S.Err e ↦ ap S.Err (error-back e) ])
 
 pub apid-inj : (x y : ApidResult) → apidAnswer x ≡ apidAnswer y → x ≡ y
-apid-inj = by-inverse apidAnswer (resultOf A.Ok A.Err) apid-back
-
-count-back : (r : SeqCountResult) → resultOf Q.Ok Q.Err (seqCountAnswer r) ≡ r
 unfolding resultOf
-count-back (Q.Ok n) = refl
-count-back (Q.Err e) = ap Q.Err (error-back e)
+apid-inj = by-inverse apidAnswer (resultOf A.Ok A.Err) (elim [ A.Ok a ↦ refl | A.Err e ↦ ap A.Err (error-back e) ])
 
 pub count-inj : (x y : SeqCountResult) → seqCountAnswer x ≡ seqCountAnswer y → x ≡ y
-count-inj = by-inverse seqCountAnswer (resultOf Q.Ok Q.Err) count-back
-
-header-back : (r : SpHeaderResult) → resultOf H.Ok H.Err (spHeaderAnswer r) ≡ r
 unfolding resultOf
-header-back (H.Ok h) = refl
-header-back (H.Err e) = ap H.Err (error-back e)
+count-inj = by-inverse seqCountAnswer (resultOf Q.Ok Q.Err) (elim [ Q.Ok n ↦ refl | Q.Err e ↦ ap Q.Err (error-back e) ])
 
 pub header-inj : (x y : SpHeaderResult) → spHeaderAnswer x ≡ spHeaderAnswer y → x ≡ y
-header-inj = by-inverse spHeaderAnswer (resultOf H.Ok H.Err) header-back
+unfolding resultOf
+header-inj = by-inverse spHeaderAnswer (resultOf H.Ok H.Err) (elim [ H.Ok h ↦ refl | H.Err e ↦ ap H.Err (error-back e) ])
 
 pub id-kept-inj : (x y : PacketIdSet) → idKept x ≡ idKept y → x ≡ y
 id-kept-inj x y p =

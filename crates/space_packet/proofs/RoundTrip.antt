@@ -9,7 +9,7 @@ use borrow.Author.Tests.{ltb-false, le-ltb}
 use Rattle.space_packet.specs.Answer.{gives}
 use Rattle.space_packet.specs.Bits.{word}
 use Rattle.space_packet.specs.Fields.{idRaw, idOf, pscRaw, pscOf}
-use Rattle.space_packet.specs.Header.{InRange, headerCheck, headerOctets, readHeader, totalOf}
+use Rattle.space_packet.specs.Header.{InRange, headerCheck, headerOctets, readHeader, packetLen}
 use Rattle.space_packet.specs.declared.SpacePacketHeader.{SpacePacketHeader}
 use Rattle.space_packet.proofs.Answers.{refuse-no, refuse-gives, then-gives, gives-then}
 use Rattle.space_packet.proofs.Numbers.{id-raw-lt, id-back, id-forth, psc-back, psc-forth}
@@ -34,7 +34,7 @@ unfolding headerOctets
 length-headerOctets h = refl
 
 -- the total that octets state
-pub stated-total : (s : List ℕ) → totalOf (readHeader s) ≡ word s 4 + 7
+pub stated-total : (s : List ℕ) → packetLen (readHeader s) ≡ word s 4 + 7
 unfolding readHeader
 stated-total s = refl
 

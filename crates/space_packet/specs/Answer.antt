@@ -3,10 +3,12 @@ use Prim.Native.Nat.{ℕ}
 use mathlib.Core.Bool.{Bool, true, false}
 use mathlib.Core.List.{List, [], _∷_}
 use lib.Dec.{ltb}
+use lib.ListN.{length, getD}
 use Rattle.space_packet.specs.declared.PusError.{PusError}
 use Rattle.space_packet.specs.declared.PusError.the-variants as E
 use Rattle.space_packet.specs.declared.ByteConversionError.{ByteConversionError}
 use Rattle.space_packet.specs.declared.ByteConversionError.the-variants.{ToSliceTooSmall, FromSliceTooSmall}
+use Rattle.space_packet.specs.declared.RefusalNumbers.{RefusalNumbers}
 use Rattle.space_packet.specs.declared.CheckResult.{CheckResult}
 use Rattle.space_packet.specs.declared.CheckResult.the-variants as C
 use Rattle.space_packet.specs.declared.SizeResult.{SizeResult}
@@ -17,8 +19,8 @@ pub record Numbers : Type 0 where
   pub number : ℕ
   pub values : List ℕ
 
-abbrev pub no : ℕ → List ℕ → Numbers
-no k v = record { number = k; values = v }
+abbrev pub refusal : ℕ → List ℕ → Numbers
+refusal k v = record { number = k; values = v }
 
 -- a value, or a refusal
 pub data Answer (A : Type 0) : Type 0 where
@@ -52,24 +54,28 @@ setIf (gives u) old new = record { passed = gives u; kept = new }
 -- ---- the numbers of refusal, 1 to 11
 
 abbrev pub bytesNumbers : ByteConversionError → Numbers
-bytesNumbers (ToSliceTooSmall found expected) = no 1 (found ∷ expected ∷ [])
-bytesNumbers (FromSliceTooSmall found expected) = no 2 (found ∷ expected ∷ [])
+bytesNumbers (ToSliceTooSmall found expected) = refusal 1 (found ∷ expected ∷ [])
+bytesNumbers (FromSliceTooSmall found expected) = refusal 2 (found ∷ expected ∷ [])
 
 abbrev pub numbersOf : PusError → Numbers
 numbersOf (E.ByteConversion e) = bytesNumbers e
-numbersOf (E.VersionNotSupported nibble) = no 3 (nibble ∷ [])
-numbersOf (E.ChecksumFailure stored) = no 4 (stored ∷ [])
-numbersOf E.CrcCalculationMissing = no 5 []
-numbersOf (E.PacketTooLong length) = no 6 (length ∷ [])
-numbersOf (E.FieldRange place value) = no 7 (place ∷ value ∷ [])
-numbersOf E.Reservation = no 8 []
-numbersOf (E.PacketVersion number) = no 9 (number ∷ [])
-numbersOf E.PacketTypeTm = no 10 []
-numbersOf E.NoSecondaryHeader = no 11 []
+numbersOf (E.VersionNotSupported nibble) = refusal 3 (nibble ∷ [])
+numbersOf (E.ChecksumFailure stored) = refusal 4 (stored ∷ [])
+numbersOf E.CrcCalculationMissing = refusal 5 []
+numbersOf (E.PacketTooLong length) = refusal 6 (length ∷ [])
+numbersOf (E.FieldRange place value) = refusal 7 (place ∷ value ∷ [])
+numbersOf E.Reservation = refusal 8 []
+numbersOf (E.PacketVersion number) = refusal 9 (number ∷ [])
+numbersOf E.PacketTypeTm = refusal 10 []
+numbersOf E.NoSecondaryHeader = refusal 11 []
+
+-- written out, with 0 for a value that it has not
+abbrev pub inNumbers : Numbers → RefusalNumbers
+inNumbers n = record { number = n .number; count = length (n .values); first = getD (n .values) 0 0; second = getD (n .values) 1 0 }
 
 -- a field's value is at most its largest, or is refused with its place
 abbrev pub inRange : ℕ → ℕ → ℕ → Passed
-inRange place largest value = refuseIf (ltb largest value) (no 7 (place ∷ value ∷ [])) (gives tt)
+inRange place largest value = refuseIf (ltb largest value) (refusal 7 (place ∷ value ∷ [])) (gives tt)
 
 -- ---- the answers of this crate's calls
 

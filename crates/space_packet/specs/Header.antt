@@ -5,7 +5,7 @@ use mathlib.Core.List.{List, [], _∷_, _++_}
 use lib.ListN.{length, drop}
 use lib.Dec.{ltb, eqb}
 use Rattle.space_packet.specs.Bits.{bits, flagNumber, be16, word}
-use Rattle.space_packet.specs.Answer.{Answer, Kept, Passed, gives, refuses, no, refuseIf, _then_, inRange, numbersOf, checkAnswer}
+use Rattle.space_packet.specs.Answer.{Answer, Kept, Passed, gives, refuses, refusal, refuseIf, _then_, inRange, numbersOf, checkAnswer}
 use Rattle.space_packet.specs.Fields.{apidCheck, countCheck, typeNumber, flagsNumber, idRaw, pscRaw, idOf, pscOf}
 use Rattle.space_packet.specs.declared.Apid.{Apid}
 use Rattle.space_packet.specs.declared.SeqCount.{SeqCount}
@@ -38,8 +38,8 @@ readHeader s =
     record { version = word s 0 / 8192; «packet_id» = idOf (word s 0); psc = pscOf (word s 2); «data_len» = word s 4 }
 
 -- 4.1.3.5, packet data length: the number of octets after the primary header, less one
-abbrev pub totalOf : SpacePacketHeader → ℕ
-totalOf h = h .«data_len» + 7
+abbrev pub packetLen : SpacePacketHeader → ℕ
+packetLen h = h .«data_len» + 7
 
 -- ---- ranges
 
@@ -62,11 +62,11 @@ spHeaderAnswer (H.Err e) = refuses (numbersOf e)
 
 -- from_be_bytes
 unfoldable pub headerRead : List ℕ → Answer SpacePacketHeader
-headerRead s = refuseIf (ltb (length s) 6) (no 2 (length s ∷ 6 ∷ [])) (gives (readHeader s))
+headerRead s = refuseIf (ltb (length s) 6) (refusal 2 (length s ∷ 6 ∷ [])) (gives (readHeader s))
 
 -- write_to_slice, on a buffer of n octets
 unfoldable pub headerWrite : SpacePacketHeader → ℕ → Answer ℕ
-headerWrite h n = headerCheck h then λ _. refuseIf (ltb n 6) (no 1 (n ∷ 6 ∷ [])) (gives 6)
+headerWrite h n = headerCheck h then λ _. refuseIf (ltb n 6) (refusal 1 (n ∷ 6 ∷ [])) (gives 6)
 
 -- what a buffer holds after a write of the octets p: p and then what it held there, or where it was refused what it held
 abbrev pub leftBy : Answer ℕ → List ℕ → List ℕ → List ℕ

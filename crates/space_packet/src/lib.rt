@@ -5,10 +5,10 @@ ghost use mathlib.Core.Bool.{true, false};
 ghost use Prim.Native.Nat.{_≤_};
 ghost use lib.ListN.{length, drop, getD};
 ghost use lib.Dec.{eqb};
-ghost use Rattle.space_packet.specs.Answer.{bytesNumbers, numbersOf, gives, _then_, setIf, inRange, checkAnswer};
+ghost use Rattle.space_packet.specs.Answer.{bytesNumbers, numbersOf, inNumbers, gives, _then_, setIf, inRange, checkAnswer};
 ghost use Rattle.space_packet.specs.Bits.{be16, word};
 ghost use Rattle.space_packet.specs.Fields.{apidCheck, countCheck, apidAnswer, seqCountAnswer, typeNumber, typeOf, flagsNumber, flagsOf, idRaw, idOf, pscRaw, pscOf, idWithApid, idKept};
-ghost use Rattle.space_packet.specs.Header.{headerOctets, totalOf, InRange, headerCheck, spHeaderAnswer, headerRead, headerWrite, headerOf, idFrom, pscFrom, withId, withPsc, headerKept, sameHeader};
+ghost use Rattle.space_packet.specs.Header.{headerOctets, packetLen, InRange, headerCheck, spHeaderAnswer, headerRead, headerWrite, headerOf, idFrom, pscFrom, withId, withPsc, headerKept, sameHeader};
 ghost use Rattle.space_packet.specs.Wrote.{Wrote};
 ghost use Rattle.space_packet.specs.declared.PacketType.the-variants.{Tm, Tc};
 ghost use Rattle.space_packet.specs.declared.SequenceFlags.the-variants.{Unsegmented};
@@ -22,23 +22,6 @@ pub const CCSDS_HEADER_LEN: usize = 6;
 pub enum ByteConversionError {
     ToSliceTooSmall { found: usize, expected: usize },
     FromSliceTooSmall { found: usize, expected: usize },
-}
-
-impl ByteConversionError {
-    fn number(self) -> u8
-        ensures { λ r. ⌜ r ≡ bytesNumbers self .number ⌝ }
-    {
-        match self {
-            ByteConversionError::ToSliceTooSmall {
-                found: _,
-                expected: _,
-            } => 1,
-            ByteConversionError::FromSliceTooSmall {
-                found: _,
-                expected: _,
-            } => 2,
-        }
-    }
 }
 
 // Every refusal of the library, in the order of its numbers.
@@ -65,23 +48,64 @@ pub enum PusError {
     NoSecondaryHeader,
 }
 
+// A refusal in numbers: its own, how many values it has, and these, with 0 for what it has not.
+pub struct RefusalNumbers {
+    pub number: u8,
+    pub count: usize,
+    pub first: u64,
+    pub second: u64,
+}
+
+fn in_numbers(number: u8, count: usize, first: u64, second: u64) -> RefusalNumbers
+    ensures { λ r. ⌜ r ≡ record { number = number; count = count; first = first; second = second } ⌝ }
+{
+    RefusalNumbers {
+        number,
+        count,
+        first,
+        second,
+    }
+}
+
+impl ByteConversionError {
+    fn numbers(self) -> RefusalNumbers
+        ensures { λ r. ⌜ r ≡ inNumbers (bytesNumbers self) ⌝ }
+    {
+        match self {
+            ByteConversionError::ToSliceTooSmall { found, expected } => {
+                in_numbers(1, 2, found as u64, expected as u64)
+            }
+            ByteConversionError::FromSliceTooSmall { found, expected } => {
+                in_numbers(2, 2, found as u64, expected as u64)
+            }
+        }
+    }
+}
+
 impl PusError {
-    // The number of the refusal.
+    // The number of the refusal, and its values.
+    pub fn numbers(self) -> RefusalNumbers
+        ensures { λ r. ⌜ r ≡ inNumbers (numbersOf self) ⌝ }
+    {
+        match self {
+            PusError::ByteConversion(e) => e.numbers(),
+            PusError::VersionNotSupported(nibble) => in_numbers(3, 1, nibble as u64, 0),
+            PusError::ChecksumFailure(stored) => in_numbers(4, 1, stored as u64, 0),
+            PusError::CrcCalculationMissing => in_numbers(5, 0, 0, 0),
+            PusError::PacketTooLong(length) => in_numbers(6, 1, length as u64, 0),
+            PusError::FieldRange { place, value } => in_numbers(7, 2, place as u64, value as u64),
+            PusError::Reservation => in_numbers(8, 0, 0, 0),
+            PusError::PacketVersion(version) => in_numbers(9, 1, version as u64, 0),
+            PusError::PacketTypeTm => in_numbers(10, 0, 0, 0),
+            PusError::NoSecondaryHeader => in_numbers(11, 0, 0, 0),
+        }
+    }
+
     pub fn number(self) -> u8
         ensures { λ r. ⌜ r ≡ numbersOf self .number ⌝ }
     {
-        match self {
-            PusError::ByteConversion(e) => e.number(),
-            PusError::VersionNotSupported(_) => 3,
-            PusError::ChecksumFailure(_) => 4,
-            PusError::CrcCalculationMissing => 5,
-            PusError::PacketTooLong(_) => 6,
-            PusError::FieldRange { place: _, value: _ } => 7,
-            PusError::Reservation => 8,
-            PusError::PacketVersion(_) => 9,
-            PusError::PacketTypeTm => 10,
-            PusError::NoSecondaryHeader => 11,
-        }
+        let n = self.numbers();
+        n.number
     }
 }
 
@@ -659,7 +683,7 @@ impl SpacePacketHeader {
 
     // The total that the length field states.
     pub fn packet_len(self) -> usize
-        ensures { λ r. ⌜ r ≡ totalOf self ⌝ }
+        ensures { λ r. ⌜ r ≡ packetLen self ⌝ }
     {
         self.data_len as usize + CCSDS_HEADER_LEN + 1
     }

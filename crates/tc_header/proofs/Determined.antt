@@ -7,18 +7,10 @@ use Rattle.tc_header.specs.declared.AckFlagsResult.the-variants as A
 use Rattle.tc_header.specs.declared.SecHeaderResult.{SecHeaderResult}
 use Rattle.tc_header.specs.declared.SecHeaderResult.the-variants as S
 
-ack-back : (r : AckFlagsResult) → resultOf A.Ok A.Err (ackAnswer r) ≡ r
-unfolding resultOf
-ack-back (A.Ok a) = refl
-ack-back (A.Err e) = ap A.Err (error-back e)
-
 pub ack-inj : (x y : AckFlagsResult) → ackAnswer x ≡ ackAnswer y → x ≡ y
-ack-inj = by-inverse ackAnswer (resultOf A.Ok A.Err) ack-back
-
-sec-back : (r : SecHeaderResult) → resultOf S.Ok S.Err (secAnswer r) ≡ r
 unfolding resultOf
-sec-back (S.Ok x) = refl
-sec-back (S.Err e) = ap S.Err (error-back e)
+ack-inj = by-inverse ackAnswer (resultOf A.Ok A.Err) (elim [ A.Ok a ↦ refl | A.Err e ↦ ap A.Err (error-back e) ])
 
 pub sec-inj : (x y : SecHeaderResult) → secAnswer x ≡ secAnswer y → x ≡ y
-sec-inj = by-inverse secAnswer (resultOf S.Ok S.Err) sec-back
+unfolding resultOf
+sec-inj = by-inverse secAnswer (resultOf S.Ok S.Err) (elim [ S.Ok x ↦ refl | S.Err e ↦ ap S.Err (error-back e) ])

@@ -1,5 +1,5 @@
 pub mod Checks
-pub mod CodecLaws
+pub mod Laws
 pub mod Determined
 pub mod Flags
 pub mod Rows

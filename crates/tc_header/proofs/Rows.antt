@@ -4,14 +4,13 @@ use mathlib.Core.Path.{_≡_, sym, ap, _∙_}
 use mathlib.Core.List.{List, _++_, append-assoc, append-nil}
 use native.Mathlib.Omega.{arith}
 use native.Mathlib.Nat.{div-add-mod'}
-use lib.ListN.{length, getD}
 use Rattle.space_packet.specs.Bits.{bits, row}
 use Rattle.space_packet.proofs.Rows.{bits-split}
-use Rattle.ecss.specs.Frame.{Octets}
+use Rattle.ecss.specs.Kind.{Taken}
 use Rattle.ecss.specs.Version.{versionNumber}
-use Rattle.tc_header.specs.Header.{secOctets, secRow, secOf}
+use Rattle.tc_header.specs.Header.{secOctets, secRow, secOf, pusC}
 use Rattle.tc_header.specs.declared.PusTcSecondaryHeader.{PusTcSecondaryHeader}
-use Rattle.tc_header.proofs.CodecLaws.{written-read}
+use Rattle.tc_header.proofs.Laws.{written-read}
 
 -- the octets that are written for a header
 pub layout : (x : PusTcSecondaryHeader) → x .«ack_flags» .0 ≤ 15 → row (secOctets x) ≡ secRow x
@@ -25,6 +24,6 @@ layout x h =
     rw (o, n) (simp (append-assoc, append-nil))
 
 -- the header that is read from five octets whose version is C, as it is always reported
-pub layout-read : (l : List ℕ) → Octets l → length l ≡ 5 → getD l 0 0 / 16 ≡ 2 → secRow (secOf l) ≡ row l
+pub layout-read : (l : List ℕ) → Taken pusC l → secRow (secOf l) ≡ row l
 unfolding secOf
-layout-read l o e v = sym (layout (secOf l) (omega arith)) ∙ ap row (written-read l o e v)
+layout-read l t = sym (layout (secOf l) (omega arith)) ∙ ap row (written-read l t)

@@ -6,11 +6,12 @@ use mathlib.Core.List.{List, [], _∷_, _++_}
 use lib.ListN.{length, getD}
 use lib.Dec.{eqb, ltb}
 use Rattle.space_packet.specs.Bits.{bits, flagNumber, be16, word}
-use Rattle.space_packet.specs.Answer.{Answer, Passed, no, gives, refuses, refuseIf, _then_, inRange, numbersOf}
-use Rattle.space_packet.specs.declared.SpacePacketHeader.{SpacePacketHeader}
+use Rattle.space_packet.specs.Answer.{Answer, Passed, refusal, gives, refuses, refuseIf, _then_, inRange, numbersOf}
+use Rattle.space_packet.specs.declared.PacketType.the-variants.{Tc}
 use Rattle.ecss.specs.Version.{versionNumber}
-use Rattle.ecss.specs.Codec.{Codec, commandRule, Command}
-use Rattle.ecss.specs.Write.{inBuffer}
+use Rattle.ecss.specs.Kind.{Kind}
+use Rattle.ecss_write.specs.Write.{inBuffer}
+use Rattle.ecss_write.specs.Writer.{Writer}
 use Rattle.ecss.specs.declared.MessageTypeId.{MessageTypeId}
 use Rattle.ecss.specs.declared.PusVersion.{PusVersion}
 use Rattle.ecss.specs.declared.PusVersion.the-variants.{PusC}
@@ -64,19 +65,37 @@ messageAt l = record { «type_id» = getD l 1 0; «subtype_id» = getD l 2 0 }
 unfoldable pub secOf : List ℕ → PusTcSecondaryHeader
 secOf l = secFrom (messageAt l) (ackOf (getD l 0 0 % 16)) (word l 3) PusC
 
--- ---- the codec
+-- ---- the kind
 
 -- only PUS C is written
 abbrev pub versionCheck : PusVersion → Passed
-versionCheck v = refuseIf (not (eqb (versionNumber v) 2)) (no 3 (versionNumber v ∷ [])) (gives tt)
+versionCheck v = refuseIf (not (eqb (versionNumber v) 2)) (refusal 3 (versionNumber v ∷ [])) (gives tt)
 
-pub record Strict (h : SpacePacketHeader) (x : PusTcSecondaryHeader) : Type 0 where
-  pub command : Command h
+pub record Fits (x : PusTcSecondaryHeader) : Type 0 where
   pub pus-c : x .version ≡ PusC
   pub ack-fits : x .«ack_flags» .0 ≤ 15
 
-abbrev pub pusC : Codec PusTcSecondaryHeader
-pusC = record { size = 5; enc = secOctets; dec = secOf; rule = λ h l. commandRule 2 h (getD l 0 0); Strict = Strict }
+-- telecommands, version 2, whose secondary header has five octets; the strict checks ask nothing more
+abbrev pub pusC : Kind PusTcSecondaryHeader
+pusC = record {
+  type = Tc;
+  other = refusal 10 [];
+  version = 2;
+  size = 5;
+  enc = secOctets;
+  dec = secOf;
+  rule = λ l. gives tt;
+  Fits = Fits;
+}
+
+-- what its writers ask: 7 for the acknowledgement flags, and 3 after the room
+abbrev pub commandC : Writer PusTcSecondaryHeader
+commandC = record {
+  kind = pusC;
+  first = λ x. gives tt;
+  fields = λ x. ackCheck (x .«ack_flags»);
+  version = λ x. versionCheck (x .version);
+}
 
 -- ---- the calls
 
@@ -86,7 +105,7 @@ secWrite x n = ackCheck (x .«ack_flags») then λ _. inBuffer n 5 then λ _. ve
 
 -- from_be_bytes
 unfoldable pub secRead : List ℕ → Answer PusTcSecondaryHeader
-secRead s = refuseIf (ltb (length s) 5) (no 2 (length s ∷ 5 ∷ [])) (gives (secOf s))
+secRead s = refuseIf (ltb (length s) 5) (refusal 2 (length s ∷ 5 ∷ [])) (gives (secOf s))
 
 abbrev pub secAnswer : SecHeaderResult → Answer PusTcSecondaryHeader
 secAnswer (S.Ok x) = gives x

@@ -2,20 +2,24 @@
 ghost use mathlib.Core.Path.{_≡_};
 ghost use mathlib.Core.List.{_++_};
 ghost use Prim.Native.Nat.{_+_, _*_, _/_, _%_, _<_, _≤_};
-ghost use lib.ListN.{length, drop};
+ghost use lib.ListN.{length, getD, drop};
 ghost use Rattle.space_packet.specs.Bits.{lowest};
 ghost use Rattle.space_packet.specs.Answer.{gives, _then_, inRange, checkAnswer};
 ghost use Rattle.space_packet.specs.Wrote.{Wrote};
-ghost use Rattle.ecss.specs.Codec.{startOf};
-ghost use Rattle.ecss.specs.Write.{inBuffer};
+ghost use Rattle.ecss_write.specs.Write.{inBuffer, asksAnswer};
+ghost use Rattle.ecss_write.specs.Writer.{askedOf};
+ghost use Rattle.ecss.specs.Kind.{startOf, strictRule};
 ghost use Rattle.ecss.specs.declared.PusVersion.the-variants.{PusC};
-ghost use Rattle.tc_header.specs.Header.{ackCheck, ackOf, ackAnswer, withFlag, secOctets, secFrom, versionCheck, secWrite, secRead, secAnswer, sameSec, pusC};
+ghost use Rattle.tc_header.specs.Header.{ackCheck, ackOf, ackAnswer, withFlag, secOctets, secFrom, versionCheck, secWrite, secRead, secAnswer, sameSec, pusC, commandC};
 use ecss::MessageTypeId;
 use ecss::PusError;
 use ecss::PusVersion;
+use ecss_write::packet::Asks;
 use space_packet::ByteConversionError;
 use space_packet::CheckResult;
+use space_packet::PacketType;
 use space_packet::SizeResult;
+use space_packet::SpHeader;
 
 // Length of the secondary header.
 pub const PUC_TC_SECONDARY_HEADER_LEN: usize = 5;
@@ -227,6 +231,20 @@ impl PusTcSecondaryHeader {
         CheckResult::Ok
     }
 
+    // What its writers ask of it: 7, and 3 after the room.
+    pub fn asks(self) -> Asks
+        ensures { λ r. ⌜ asksAnswer r ≡ askedOf commandC self ⌝ }
+    {
+        let ack = self.ack_flags;
+        let fields = ack.check();
+        let version = self.check_version();
+        Asks {
+            first: CheckResult::Ok,
+            fields,
+            version,
+        }
+    }
+
     // Whether every field is the same.
     pub fn eq(self, other: PusTcSecondaryHeader) -> bool
         ensures { λ r. ⌜ r ≡ sameSec self other ⌝ }
@@ -299,4 +317,28 @@ impl PusTcSecondaryHeader {
         buf[3] = (source / 256) as u8;
         buf[4] = (source % 256) as u8;
     }
+}
+
+// The first octet; 0 where there is none.
+fn first_octet(s: &[u8]) -> u8
+    ensures { λ r. ⌜ r ≡ getD (now (s .entry)) 0 0 ⌝ }
+{
+    if s.len() == 0 {
+        return 0;
+    }
+    s[0]
+}
+
+// The strict checks of a PUS-C telecommand, on its primary header and its secondary header's octets; 9, 10, 11, 3.
+pub fn strict_rule(h: SpHeader, second: &[u8]) -> CheckResult
+    ensures { λ r. ⌜ checkAnswer r ≡ strictRule pusC h (now (second .entry)) ⌝ }
+{
+    let version = PusVersion::PusC;
+    ecss::pus_rule(
+        PacketType::Tc,
+        PusError::PacketTypeTm,
+        version.raw_value(),
+        h,
+        first_octet(second),
+    )
 }

@@ -5,10 +5,6 @@ use Rattle.tc_read.specs.Read.{recordAnswer}
 use Rattle.tc_read.specs.declared.PusTcRecordResult.{PusTcRecordResult}
 use Rattle.tc_read.specs.declared.PusTcRecordResult.the-variants as R
 
-record-back : (r : PusTcRecordResult) → resultOf R.Ok R.Err (recordAnswer r) ≡ r
-unfolding resultOf
-record-back (R.Ok r) = refl
-record-back (R.Err e) = ap R.Err (error-back e)
-
 pub record-inj : (x y : PusTcRecordResult) → recordAnswer x ≡ recordAnswer y → x ≡ y
-record-inj = by-inverse recordAnswer (resultOf R.Ok R.Err) record-back
+unfolding resultOf
+record-inj = by-inverse recordAnswer (resultOf R.Ok R.Err) (elim [ R.Ok r ↦ refl | R.Err e ↦ ap R.Err (error-back e) ])

@@ -1,4 +1,3 @@
-pub mod Compared
 pub mod Determined
 pub mod Records
 pub mod RoundTrip

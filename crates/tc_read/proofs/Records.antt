@@ -13,38 +13,38 @@ use Rattle.space_packet.specs.Header.{headerRead, readHeader}
 use Rattle.space_packet.specs.declared.SpacePacketHeader.{SpacePacketHeader}
 use Rattle.space_packet.proofs.Answers.{gives-inj, refuses-inj, never, refuse-no, then-gives, gives-then}
 use Rattle.ecss.specs.Frame.{trailer, frameOf, checkedOf, rawPart, dataPart}
-use Rattle.ecss.specs.Codec.{secondaryOf}
+use Rattle.ecss.specs.Kind.{secondaryOf}
 use Rattle.ecss.proofs.Frames.{total-frame, checked-total}
-use Rattle.tc_header.specs.Header.{secRead, secOf}
+use Rattle.tc_header.specs.Header.{secRead, secOf, pusC}
 use Rattle.tc_header.specs.declared.PusTcSecondaryHeader.{PusTcSecondaryHeader}
-use Rattle.tc_read.specs.Read.{recordOf, crcTaken, readOf, checkedRead, appData, rawData}
+use Rattle.tc_read.specs.Read.{startC, recordOf, crcTaken, readOf, checkedRead, appData, rawData}
 use Rattle.ecss.specs.declared.Crc16.{Crc16}
 use Rattle.tc_read.specs.declared.PusTcRecord.{PusTcRecord}
 
-pub primary-read : (s : List ℕ) → 11 ≤ length s → headerRead s ≡ gives (readHeader s)
+pub primary-read : (s : List ℕ) → startC ≤ length s → headerRead s ≡ gives (readHeader s)
 unfolding headerRead
 primary-read s n = refuse-no _ _ _ (le-ltb (length s) 6 (omega arith))
 
-secondary-length : (s : List ℕ) → 11 ≤ length s → length (secondaryOf 5 s) ≡ 5
-secondary-length s n = length-take-le 5 (drop 6 s) (omega (arith, length-drop 6 s))
+pub secondary-length : (s : List ℕ) → startC ≤ length s → length (secondaryOf (pusC .size) s) ≡ pusC .size
+secondary-length s n = length-take-le (pusC .size) (drop 6 s) (omega (arith, length-drop 6 s))
 
 -- its first octet
-pub octet-six : (s : List ℕ) → getD (secondaryOf 5 s) 0 0 ≡ getD s 6 0
-octet-six s = getD-take 5 (drop 6 s) 0 0 (lit< tt) ∙ getD-drop 6 s 0 0
+pub octet-six : (s : List ℕ) → getD (secondaryOf (pusC .size) s) 0 0 ≡ getD s 6 0
+octet-six s = getD-take (pusC .size) (drop 6 s) 0 0 (lit< tt) ∙ getD-drop 6 s 0 0
 
-pub secondary-read : (s : List ℕ) → 11 ≤ length s → secRead (secondaryOf 5 s) ≡ gives (secOf (secondaryOf 5 s))
+pub secondary-read : (s : List ℕ) → startC ≤ length s → secRead (secondaryOf (pusC .size) s) ≡ gives (secOf (secondaryOf (pusC .size) s))
 unfolding secRead
-secondary-read s n = refuse-no _ _ _ (le-ltb (length (secondaryOf 5 s)) 5 (omega (arith, secondary-length s n)))
+secondary-read s n = refuse-no _ _ _ (le-ltb (length (secondaryOf (pusC .size) s)) (pusC .size) (omega (arith, secondary-length s n)))
 
 -- a record of what was read is the record of the octets
-pub record-read : (s : List ℕ) (b : Bool) (n : ℕ) (h : SpacePacketHeader) (x : PusTcSecondaryHeader) (e : ℕ) (k : Crc16) → 11 ≤ length s
-    → headerRead s ≡ gives h → secRead (secondaryOf 5 s) ≡ gives x → e ≡ n - trailer b → k ≡ crcTaken b s n
-    → record { «sp_header» = h; «sec_header» = x; start = 11; end = e; total = n; crc16 = k } ≡ recordOf s b n
+pub record-read : (s : List ℕ) (b : Bool) (n : ℕ) (h : SpacePacketHeader) (x : PusTcSecondaryHeader) (e : ℕ) (k : Crc16) → startC ≤ length s
+    → headerRead s ≡ gives h → secRead (secondaryOf (pusC .size) s) ≡ gives x → e ≡ n - trailer b → k ≡ crcTaken b s n
+    → record { «sp_header» = h; «sec_header» = x; start = startC; end = e; total = n; crc16 = k } ≡ recordOf s b n
 unfolding recordOf
 record-read s b n h x e k l p q end crc =
     let hs = gives-inj h (readHeader s) (sym p ∙ primary-read s l) in
-    let xs = gives-inj x (secOf (secondaryOf 5 s)) (sym q ∙ secondary-read s l) in
-    λ i. record { «sp_header» = hs i; «sec_header» = xs i; start = 11; end = end i; total = n; crc16 = crc i }
+    let xs = gives-inj x (secOf (secondaryOf (pusC .size) s)) (sym q ∙ secondary-read s l) in
+    λ i. record { «sp_header» = hs i; «sec_header» = xs i; start = startC; end = end i; total = n; crc16 = crc i }
 
 -- ---- what was read, and the parts
 
@@ -56,23 +56,23 @@ given a s b r p =
     let e = sym (gives-inj _ r (q .2)) in
     let n : q .0 ≡ r .total = sym (ap (λ (x : PusTcRecord). x .total) e) in (q .1 ∙ ap gives n, e ∙ ap (recordOf s b) n)
 
-pub read-is : (s : List ℕ) (b : Bool) (r : PusTcRecord) → readOf s b ≡ gives r → (frameOf 11 s b ≡ gives (r .total)) × (r ≡ recordOf s b (r .total))
+pub read-is : (s : List ℕ) (b : Bool) (r : PusTcRecord) → readOf s b ≡ gives r → (frameOf startC s b ≡ gives (r .total)) × (r ≡ recordOf s b (r .total))
 unfolding readOf
-read-is s b r p = given (frameOf 11 s b) s b r p
+read-is s b r p = given (frameOf startC s b) s b r p
 
-pub checked-is : (s : List ℕ) (r : PusTcRecord) → checkedRead s ≡ gives r → (checkedOf 11 s ≡ gives (r .total)) × (r ≡ recordOf s true (r .total))
+pub checked-is : (s : List ℕ) (r : PusTcRecord) → checkedRead s ≡ gives r → (checkedOf startC s ≡ gives (r .total)) × (r ≡ recordOf s true (r .total))
 unfolding checkedRead
-checked-is s r p = given (checkedOf 11 s) s true r p
+checked-is s r p = given (checkedOf startC s) s true r p
 
 -- what is reported where the checksum is compared is reported where it is only taken
 pub checked-read : (s : List ℕ) (r : PusTcRecord) → checkedRead s ≡ gives r → readOf s true ≡ gives r
 unfolding readOf
 checked-read s r p =
     let q = checked-is s r p in
-    gives-then _ _ _ (total-frame 11 s true (r .total) (checked-total 11 s (r .total) (q .0) .0)) ∙ ap gives (sym (q .1))
+    gives-then _ _ _ (total-frame startC s true (r .total) (checked-total startC s (r .total) (q .0) .0)) ∙ ap gives (sym (q .1))
 
 -- where the data lies
-bounds : (s : List ℕ) (b : Bool) (r : PusTcRecord) → r ≡ recordOf s b (r .total) → (r .start ≡ 11) × (r .end ≡ r .total - trailer b)
+bounds : (s : List ℕ) (b : Bool) (r : PusTcRecord) → r ≡ recordOf s b (r .total) → (r .start ≡ startC) × (r .end ≡ r .total - trailer b)
 unfolding recordOf
 bounds s b r e = (ap (λ (x : PusTcRecord). x .start) e, ap (λ (x : PusTcRecord). x .end) e)
 
@@ -80,7 +80,7 @@ pub data-part : (s : List ℕ) (b : Bool) (r : PusTcRecord) → readOf s b ≡ g
 data-part s b r p =
     let q = read-is s b r p in
     let e = bounds s b r (q .1) in
-    ap (λ (a : Answer ℕ). dataPart 11 b a s) (q .0)
+    ap (λ (a : Answer ℕ). dataPart startC b a s) (q .0)
     ∙ ap₂ (λ (x y : ℕ). take (x - y) (drop y s)) (sym (e .1)) (sym (e .0))
 
 pub raw-part : (s : List ℕ) (b : Bool) (r : PusTcRecord) → readOf s b ≡ gives r → rawData s b ≡ take (r .total) s
@@ -91,13 +91,13 @@ unfolding _then_
 refused (refuses d) f e p = ap refuses (refuses-inj d e p)
 refused (gives n) f e p = absurd (never (f n) e (sym p))
 
-pub checked-refused : (s : List ℕ) (e : Numbers) → checkedRead s ≡ refuses e → checkedOf 11 s ≡ refuses e
+pub checked-refused : (s : List ℕ) (e : Numbers) → checkedRead s ≡ refuses e → checkedOf startC s ≡ refuses e
 unfolding checkedRead
-checked-refused s e p = refused (checkedOf 11 s) (recordOf s true) e p
+checked-refused s e p = refused (checkedOf startC s) (recordOf s true) e p
 
 -- where the read is refused, both parts are empty
 pub refused-parts : (s : List ℕ) (b : Bool) (e : Numbers) → readOf s b ≡ refuses e → (appData s b ≡ []) × (rawData s b ≡ [])
 unfolding readOf
 refused-parts s b e p =
-    let q = refused (frameOf 11 s b) (recordOf s b) e p in
-    (ap (λ (a : Answer ℕ). dataPart 11 b a s) q, ap (λ (a : Answer ℕ). rawPart a s) q)
+    let q = refused (frameOf startC s b) (recordOf s b) e p in
+    (ap (λ (a : Answer ℕ). dataPart startC b a s) q, ap (λ (a : Answer ℕ). rawPart a s) q)

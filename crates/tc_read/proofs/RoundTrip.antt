@@ -7,53 +7,23 @@ use native.Mathlib.Omega.{arith}
 use lib.ListN.{length, getD, take, drop}
 use lib.Seq.{take-at}
 use Rattle.space_packet.specs.Answer.{Answer, gives}
-use Rattle.space_packet.specs.Header.{InRange, totalOf, headerOf, idFrom, pscFrom}
-use Rattle.space_packet.specs.declared.SpacePacketHeader.{SpacePacketHeader}
-use Rattle.space_packet.specs.declared.PacketType.the-variants.{Tc}
-use Rattle.space_packet.specs.declared.SequenceFlags.the-variants.{Unsegmented}
 use Rattle.space_packet.proofs.Answers.{gives-then}
-use Rattle.crc_step.specs.Crc.{crcOf}
+use Rattle.crc_register.specs.Crc.{crcOf}
 use Rattle.ecss.specs.Frame.{Octets, trailer, closed, frameOf, checkedOf, rawPart, dataPart}
-use Rattle.ecss.specs.Codec.{Packet, Command, contentOf, readAs}
-use Rattle.ecss.specs.declared.PusVersion.the-variants.{PusC}
+use Rattle.ecss.specs.Kind.{Packet, Stated, contentOf, readAs}
 use Rattle.ecss.proofs.Frames.{total-frame, checked-total, total-checked}
 use Rattle.ecss.proofs.Sealed.{sealed-verifies}
-use Rattle.ecss.proofs.Rules.{command-rule}
 use Rattle.tc_header.specs.Header.{pusC}
 use Rattle.tc_header.specs.declared.PusTcSecondaryHeader.{PusTcSecondaryHeader}
-use Rattle.tc_header.proofs.CodecLaws.{laws}
-use Rattle.tc_read.specs.Read.{recordOf, crcTaken, readOf, checkedRead, appData, rawData}
+use Rattle.tc_header.proofs.Laws.{laws}
+use Rattle.tc_read.specs.Read.{startC, recordOf, crcTaken, readOf, checkedRead, appData, rawData}
 use Rattle.ecss.specs.declared.Crc16.{Crc16}
 use Rattle.ecss.specs.declared.Crc16.the-variants.{Some, None}
 use Rattle.tc_read.specs.declared.PusTcRecord.{PusTcRecord}
-use Rattle.tc_read.proofs.Records.{octet-six, read-is, checked-is, checked-read, raw-part}
-use Rattle.ecss.proofs.Pieces.{Stated, primary-is, secondary-is, frame-is, data-is, stored-is, content-length, closed-length, packet-back}
-
--- a primary header of which the strict checks ask nothing more
-someCommand : SpacePacketHeader
-someCommand = headerOf (idFrom Tc true (record { 0 = 0 })) (pscFrom Unsegmented (record { 0 = 0 })) 0 0
-
-some-command : Command someCommand
-unfolding someCommand
-some-command = record { version-zero = refl; telecommand = refl; has-secondary = refl }
+use Rattle.tc_read.proofs.Records.{octet-six, secondary-length, read-is, checked-is, checked-read, raw-part}
+use Rattle.ecss.proofs.Pieces.{primary-is, secondary-is, frame-is, data-is, stored-is, content-length, closed-length, octets-drop, octets-take, packet-back}
 
 -- ---- written, then read
-
--- every field is in its width, the version is C, and the length field states the total
-pub record Readable (b : Bool) (p : Packet PusTcSecondaryHeader) : Type 0 where
-  pub in-range : InRange (p .primary)
-  pub pus-c : p .secondary .version ≡ PusC
-  pub ack-fits : p .secondary .«ack_flags» .0 ≤ 15
-  pub states-length : totalOf (p .primary) ≡ 11 + length (p .user) + trailer b
-
-stated : (b : Bool) (p : Packet PusTcSecondaryHeader) → Readable b p → Stated pusC b p
-stated b p r =
-    record {
-      in-range = r .in-range;
-      beside = someCommand;
-      strict = record { command = some-command; pus-c = r .pus-c; ack-fits = r .ack-fits };
-      states-length = r .states-length;
-    }
 
 abbrev pub checksumOf : Bool → List ℕ → Crc16
 checksumOf true l = Some (crcOf l)
@@ -64,63 +34,70 @@ abbrev pub reportOf : Bool → Packet PusTcSecondaryHeader → PusTcRecord
 reportOf b p = record {
   «sp_header» = p .primary;
   «sec_header» = p .secondary;
-  start = 11;
-  end = 11 + length (p .user);
-  total = 11 + length (p .user) + trailer b;
+  start = startC;
+  end = startC + length (p .user);
+  total = startC + length (p .user) + trailer b;
   crc16 = checksumOf b (contentOf pusC p);
 }
 
 -- the checksum is the one over the content
-crc-is : (b : Bool) (p : Packet PusTcSecondaryHeader) (rest : List ℕ) → Readable b p
-    → crcTaken b (closed b (contentOf pusC p) ++ rest) (11 + length (p .user) + trailer b) ≡ checksumOf b (contentOf pusC p)
-crc-is true p rest r = ap Some (stored-is (contentOf pusC p) rest _ (omega (arith, content-length pusC laws true p rest (stated true p r))))
+crc-is : (b : Bool) (p : Packet PusTcSecondaryHeader) (rest : List ℕ) → Stated pusC b p
+    → crcTaken b (closed b (contentOf pusC p) ++ rest) (startC + length (p .user) + trailer b) ≡ checksumOf b (contentOf pusC p)
+crc-is true p rest r = ap Some (stored-is (contentOf pusC p) rest _ (omega (arith, content-length pusC laws true p rest r)))
 crc-is false p rest r = refl
 
-frame-written : (b : Bool) (p : Packet PusTcSecondaryHeader) (rest : List ℕ) → Readable b p → frameOf 11 (closed b (contentOf pusC p) ++ rest) b ≡ gives (11 + length (p .user) + trailer b)
-frame-written b p rest r = total-frame 11 _ b _ (frame-is pusC laws b p rest (stated b p r))
+frame-written : (b : Bool) (p : Packet PusTcSecondaryHeader) (rest : List ℕ) → Stated pusC b p → frameOf startC (closed b (contentOf pusC p) ++ rest) b ≡ gives (startC + length (p .user) + trailer b)
+frame-written b p rest r = total-frame startC _ b _ (frame-is pusC laws b p rest r)
 
-record-is : (b : Bool) (p : Packet PusTcSecondaryHeader) (rest : List ℕ) → Readable b p
-    → recordOf (closed b (contentOf pusC p) ++ rest) b (11 + length (p .user) + trailer b) ≡ reportOf b p
+record-is : (b : Bool) (p : Packet PusTcSecondaryHeader) (rest : List ℕ) → Stated pusC b p
+    → recordOf (closed b (contentOf pusC p) ++ rest) b (startC + length (p .user) + trailer b) ≡ reportOf b p
 unfolding recordOf
 record-is b p rest r =
-    let w = stated b p r in
-    let e : 11 + length (p .user) + trailer b - trailer b ≡ 11 + length (p .user) = omega arith in
-    λ i. record { «sp_header» = primary-is pusC b p rest w i; «sec_header» = secondary-is pusC laws b p rest w i; start = 11; end = e i; total = 11 + length (p .user) + trailer b; crc16 = crc-is b p rest r i }
+    let w = r in
+    let e : startC + length (p .user) + trailer b - trailer b ≡ startC + length (p .user) = omega arith in
+    λ i. record { «sp_header» = primary-is pusC b p rest w i; «sec_header» = secondary-is pusC laws b p rest w i; start = startC; end = e i; total = startC + length (p .user) + trailer b; crc16 = crc-is b p rest r i }
 
 -- with the choice of checksum that it was written with, and anything after it
-pub read-written : (b : Bool) (p : Packet PusTcSecondaryHeader) (rest : List ℕ) → Readable b p → readOf (closed b (contentOf pusC p) ++ rest) b ≡ gives (reportOf b p)
+pub read-written : (b : Bool) (p : Packet PusTcSecondaryHeader) (rest : List ℕ) → Stated pusC b p → readOf (closed b (contentOf pusC p) ++ rest) b ≡ gives (reportOf b p)
 unfolding readOf
 read-written b p rest r =
     gives-then _ _ _ (frame-written b p rest r) ∙ ap gives (record-is b p rest r)
 
 -- and with a checksum, also where it is compared
-pub checked-written : (p : Packet PusTcSecondaryHeader) (rest : List ℕ) → Readable true p → checkedRead (closed true (contentOf pusC p) ++ rest) ≡ gives (reportOf true p)
+pub checked-written : (p : Packet PusTcSecondaryHeader) (rest : List ℕ) → Stated pusC true p → checkedRead (closed true (contentOf pusC p) ++ rest) ≡ gives (reportOf true p)
 unfolding checkedRead
 checked-written p rest r =
-    let w = stated true p r in
+    let w = r in
     let v = ap crcOf (take-at (closed true (contentOf pusC p)) rest _ (closed-length pusC laws true p rest w)) ∙ sealed-verifies (contentOf pusC p) in
-    gives-then _ _ _ (total-checked 11 _ _ (frame-is pusC laws true p rest w) v) ∙ ap gives (record-is true p rest r)
+    gives-then _ _ _ (total-checked startC _ _ (frame-is pusC laws true p rest w) v) ∙ ap gives (record-is true p rest r)
 
-pub data-written : (b : Bool) (p : Packet PusTcSecondaryHeader) (rest : List ℕ) → Readable b p → appData (closed b (contentOf pusC p) ++ rest) b ≡ p .user
+pub data-written : (b : Bool) (p : Packet PusTcSecondaryHeader) (rest : List ℕ) → Stated pusC b p → appData (closed b (contentOf pusC p) ++ rest) b ≡ p .user
 data-written b p rest r =
     let s = closed b (contentOf pusC p) ++ rest in
-    let e : 11 + length (p .user) + trailer b - trailer b - 11 ≡ length (p .user) = omega arith in
-    ap (λ (a : Answer ℕ). dataPart 11 b a s) (frame-written b p rest r)
-    ∙ ap (λ (n : ℕ). take n (drop 11 s)) e ∙ data-is pusC laws b p rest (stated b p r)
+    let e : startC + length (p .user) + trailer b - trailer b - startC ≡ length (p .user) = omega arith in
+    ap (λ (a : Answer ℕ). dataPart startC b a s) (frame-written b p rest r)
+    ∙ ap (λ (n : ℕ). take n (drop startC s)) e ∙ data-is pusC laws b p rest r
 
-pub raw-written : (b : Bool) (p : Packet PusTcSecondaryHeader) (rest : List ℕ) → Readable b p → rawData (closed b (contentOf pusC p) ++ rest) b ≡ closed b (contentOf pusC p)
+pub raw-written : (b : Bool) (p : Packet PusTcSecondaryHeader) (rest : List ℕ) → Stated pusC b p → rawData (closed b (contentOf pusC p) ++ rest) b ≡ closed b (contentOf pusC p)
 raw-written b p rest r =
     ap (λ (a : Answer ℕ). rawPart a (closed b (contentOf pusC p) ++ rest)) (frame-written b p rest r)
-    ∙ take-at (closed b (contentOf pusC p)) rest _ (closed-length pusC laws b p rest (stated b p r))
+    ∙ take-at (closed b (contentOf pusC p)) rest _ (closed-length pusC laws b p rest r)
 
 -- ---- read, then written
 
 -- octets that verify, and whose version nibble is C's
-pub written-again : (s : List ℕ) (n : ℕ) → Octets s → checkedOf 11 s ≡ gives n → getD s 6 0 / 16 ≡ 2 → closed true (contentOf pusC (readAs pusC s n)) ≡ take n s
+pub written-again : (s : List ℕ) (n : ℕ) → Octets s → checkedOf startC s ≡ gives n → getD s 6 0 / 16 ≡ 2 → closed true (contentOf pusC (readAs pusC s n)) ≡ take n s
 written-again s n o p v =
-    let q = checked-total 11 s n p in
-    let x = ap (λ (k : ℕ). k / 16) (octet-six s) ∙ v in
-    packet-back pusC laws s n o (q .0) someCommand (command-rule 2 someCommand _ some-command x) (q .1)
+    let q = checked-total startC s n p in
+    let l : startC ≤ length s = omega (arith, q .0 .room, q .0 .fits) in
+    packet-back pusC laws s n o (q .0)
+    (record {
+      octets = octets-take (pusC .size) (drop 6 s) (octets-drop 6 s o);
+      sized = secondary-length s l;
+      versioned = ap (λ (k : ℕ). k / 16) (octet-six s) ∙ v;
+      ruled = refl;
+    })
+    (q .1)
 
 -- the same of what is reported: its headers and its data, written again, are the packet
 pub report-written : (s : List ℕ) (r : PusTcRecord) → Octets s → checkedRead s ≡ gives r → getD s 6 0 / 16 ≡ 2
@@ -129,7 +106,7 @@ unfolding recordOf readAs
 report-written s r o p v =
     let q = checked-is s r p in
     let f = read-is s true r (checked-read s r p) .0 in
-    let d = ap (λ (a : Answer ℕ). dataPart 11 true a s) f in
+    let d = ap (λ (a : Answer ℕ). dataPart startC true a s) f in
     let e : record { primary = r .«sp_header»; secondary = r .«sec_header»; user = appData s true } ≡ readAs pusC s (r .total) = λ i. record { primary = q .1 i .«sp_header»; secondary = q .1 i .«sec_header»; user = d i } in
     ap (λ (x : Packet PusTcSecondaryHeader). closed true (contentOf pusC x)) e
     ∙ written-again s (r .total) o (q .0) v ∙ sym (raw-part s true r (checked-read s r p))

@@ -1,21 +1,21 @@
-// PUS-C telecommands read, after ECSS-E-ST-70-41C: the record of what octets hold, the parts of them that are handed out
-// without a copy, and the comparisons.
+// PUS-C telecommands read, after ECSS-E-ST-70-41C: the record of what octets hold, and the parts of them that are handed out
+// without a copy.
 ghost use mathlib.Core.Path.{_≡_};
 ghost use mathlib.Core.Bool.{false};
 ghost use Prim.Native.Nat.{_+_, _-_, _≤_};
 ghost use lib.Dec.{eqb};
 ghost use lib.ListN.{length};
 ghost use Rattle.space_packet.specs.Fields.{typeNumber, idRaw, pscRaw};
-ghost use Rattle.space_packet.specs.Header.{totalOf};
+ghost use Rattle.space_packet.specs.Header.{packetLen};
 ghost use Rattle.ecss.specs.Frame.{trailer};
-ghost use Rattle.tc_read.specs.Read.{recordOf, recordAnswer, readOf, checkedRead, appData, rawData, equalsCreator, equalsReader, crcTaken, hasCrc, isRead};
+ghost use Rattle.tc_read.specs.Read.{startC, recordOf, recordAnswer, readOf, checkedRead, appData, rawData, crcTaken, hasCrc};
 pub use ecss::Crc16;
 use ecss::MessageTypeId;
 use ecss::PusError;
 use ecss::PusVersion;
 use ecss::frame;
-use ecss_tc::PusTcCreator;
 use space_packet::Apid;
+use space_packet::CCSDS_HEADER_LEN;
 use space_packet::PacketId;
 use space_packet::PacketSequenceControl;
 use space_packet::PacketType;
@@ -25,6 +25,7 @@ use space_packet::SizeResult;
 use space_packet::SpHeader;
 use space_packet::SpHeaderResult;
 use tc_header::AckFlags;
+use tc_header::PUS_TC_MIN_LEN_WITHOUT_APP_DATA;
 use tc_header::PusTcSecondaryHeader;
 use tc_header::SecHeaderResult;
 
@@ -56,20 +57,12 @@ fn crc_taken(slice: &[u8], total: usize, has_checksum: bool) -> Crc16
     Crc16::None
 }
 
-// Where the data of a packet of `total` octets ends.
-fn end_of(total: usize, has_checksum: bool) -> usize
-    requires { ⌜ 2 ≤ total ⌝ }
-    ensures { λ r. ⌜ r ≡ total - trailer «has_checksum» ⌝ }
-{
-    if has_checksum { total - 2 } else { total }
-}
-
 impl PusTcRecord {
     // The checksum is taken and compared: reads the packet that octets begin with; 2, 4.
     pub fn new(slice: &[u8]) -> PusTcRecordResult
         ensures { λ r. ⌜ recordAnswer r ≡ checkedRead (now (slice .entry)) ⌝ }
     {
-        let f = frame::checked(slice, 5);
+        let f = frame::checked(slice, PUS_TC_MIN_LEN_WITHOUT_APP_DATA);
         match f {
             SizeResult::Err(refusal) => PusTcRecordResult::Err(refusal),
             SizeResult::Ok(total) => PusTcRecord::of(slice, total, true),
@@ -93,7 +86,7 @@ impl PusTcRecord {
     pub fn new_no_checksum_verification(slice: &[u8], has_checksum: bool) -> PusTcRecordResult
         ensures { λ r. ⌜ recordAnswer r ≡ readOf (now (slice .entry)) «has_checksum» ⌝ }
     {
-        let f = frame::frame_of(slice, 5, has_checksum);
+        let f = frame::frame_of(slice, PUS_TC_MIN_LEN_WITHOUT_APP_DATA, has_checksum);
         match f {
             SizeResult::Err(e) => PusTcRecordResult::Err(e),
             SizeResult::Ok(total) => PusTcRecord::of(slice, total, has_checksum),
@@ -102,23 +95,25 @@ impl PusTcRecord {
 
     // The record of a packet of `total` octets.
     fn of(slice: &[u8], total: usize, has_checksum: bool) -> PusTcRecordResult
-        requires { ⌜ (11 + trailer «has_checksum» ≤ total) × (total ≤ length (now slice)) ⌝ }
+        requires { ⌜ (startC + trailer «has_checksum» ≤ total) × (total ≤ length (now slice)) ⌝ }
         ensures { λ r. ⌜ r ≡ PusTcRecordResult.Ok (recordOf (now (slice .entry)) «has_checksum» total) ⌝ }
     {
         let header = SpHeader::from_be_bytes(slice);
         match header {
             SpHeaderResult::Err(e) => PusTcRecordResult::Err(e),
             SpHeaderResult::Ok(sp_header) => {
-                let second = PusTcSecondaryHeader::from_be_bytes(&slice[6..11]);
+                let second = PusTcSecondaryHeader::from_be_bytes(
+                    &slice[CCSDS_HEADER_LEN..PUS_TC_MIN_LEN_WITHOUT_APP_DATA],
+                );
                 match second {
                     SecHeaderResult::Err(e) => PusTcRecordResult::Err(e),
                     SecHeaderResult::Ok(sec_header) => {
-                        let end = end_of(total, has_checksum);
+                        let end = total - frame::trailer_len(has_checksum);
                         let crc16 = crc_taken(slice, total, has_checksum);
                         PusTcRecordResult::Ok(PusTcRecord {
                             sp_header,
                             sec_header,
-                            start: 11,
+                            start: PUS_TC_MIN_LEN_WITHOUT_APP_DATA,
                             end,
                             total,
                             crc16,
@@ -133,7 +128,7 @@ impl PusTcRecord {
 
     // The total that the length field states.
     pub fn len_packed(self) -> usize
-        ensures { λ r. ⌜ r ≡ totalOf (self .«sp_header») ⌝ }
+        ensures { λ r. ⌜ r ≡ packetLen (self .«sp_header») ⌝ }
     {
         let h = self.sp_header;
         h.packet_len()
@@ -204,7 +199,7 @@ impl PusTcRecord {
     }
 
     pub fn packet_len(self) -> usize
-        ensures { λ r. ⌜ r ≡ totalOf (self .«sp_header») ⌝ }
+        ensures { λ r. ⌜ r ≡ packetLen (self .«sp_header») ⌝ }
     {
         let h = self.sp_header;
         h.packet_len()
@@ -316,65 +311,18 @@ impl PusTcRecord {
     }
 }
 
-// ---- parts, and comparisons: each takes the octets and the choice of checksum, and reads anew
+// ---- parts: each call takes the octets and the choice of checksum, and reads anew
 
 // The application data; the empty part where the read is refused.
 pub fn app_data(slice: &[u8], has_checksum: bool) -> &[u8]
     ensures { λ r. ⌜ now r ≡ appData (now (slice .entry)) «has_checksum» ⌝ }
 {
-    frame::data_part(slice, 5, has_checksum)
+    frame::data_part(slice, PUS_TC_MIN_LEN_WITHOUT_APP_DATA, has_checksum)
 }
 
 // The whole packet; the empty part where the read is refused.
 pub fn raw_data(slice: &[u8], has_checksum: bool) -> &[u8]
     ensures { λ r. ⌜ now r ≡ rawData (now (slice .entry)) «has_checksum» ⌝ }
 {
-    frame::raw_part(slice, 5, has_checksum)
-}
-
-// Whether what is read is the creator's: both headers and the data.
-pub fn eq_creator(slice: &[u8], has_checksum: bool, creator: PusTcCreator, data: &[u8]) -> bool
-    ensures { λ r. ⌜ r ≡ equalsCreator (now (slice .entry)) «has_checksum» creator (now («data» .entry)) ⌝ }
-{
-    let read = PusTcRecord::new_no_checksum_verification(slice, has_checksum);
-    match read {
-        PusTcRecordResult::Err(_) => false,
-        PusTcRecordResult::Ok(record) => {
-            let h = record.sp_header;
-            if !h.eq(creator.sp_header()) {
-                return false;
-            }
-            let x = record.sec_header;
-            if !x.eq(creator.sec_header()) {
-                return false;
-            }
-            let user = app_data(slice, has_checksum);
-            frame::same_octets(user, data)
-        }
-    }
-}
-
-fn is_read(slice: &[u8], has_checksum: bool) -> bool
-    ensures { λ r. ⌜ r ≡ isRead (readOf (now (slice .entry)) «has_checksum») ⌝ }
-{
-    let read = PusTcRecord::new_no_checksum_verification(slice, has_checksum);
-    match read {
-        PusTcRecordResult::Err(_) => false,
-        PusTcRecordResult::Ok(_) => true,
-    }
-}
-
-// Whether two readers hold the same packet: by their raw octets only.
-pub fn eq_reader(slice: &[u8], has_checksum: bool, other: &[u8], other_has_checksum: bool) -> bool
-    ensures { λ r. ⌜ r ≡ equalsReader (now (slice .entry)) «has_checksum» (now (other .entry)) «other_has_checksum» ⌝ }
-{
-    if !is_read(slice, has_checksum) {
-        return false;
-    }
-    if !is_read(other, other_has_checksum) {
-        return false;
-    }
-    let raw = raw_data(slice, has_checksum);
-    let other_raw = raw_data(other, other_has_checksum);
-    frame::same_octets(raw, other_raw)
+    frame::raw_part(slice, PUS_TC_MIN_LEN_WITHOUT_APP_DATA, has_checksum)
 }

@@ -1,5 +1,5 @@
 use mathlib.Core.Path.{sym, ap, _∙_}
-use Rattle.strict.specs.Verdict.{verdictAnswer}
+use Rattle.tc_strict.specs.Verdict.{verdictAnswer}
 use Rattle.bench_judge.specs.Numbers.{totalNumber}
 use borrow.Author.Needs.{needs}
 use Rattle.bench_judge.proofs.port_judge.Statement.{statement}

@@ -1,7 +1,7 @@
 use mathlib.Core.Path.{sym, ap, _∙_}
-use Rattle.strict.specs.Split.{stepAnswer}
-use Rattle.strict.specs.Verdict.{verdictAnswer}
-use Rattle.strict.specs.declared.Verdict.{Verdict}
+use Rattle.tc_strict.specs.Split.{stepAnswer}
+use Rattle.tc_strict.specs.Verdict.{verdictAnswer}
+use Rattle.tc_strict.specs.declared.Verdict.{Verdict}
 use Rattle.bench_split.specs.Numbers.{nextBehind, stepNumber}
 use borrow.Author.Needs.{needs}
 use Rattle.bench_split.proofs.port_step.Statement.{statement}

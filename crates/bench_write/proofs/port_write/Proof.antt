@@ -1,7 +1,7 @@
 use mathlib.Core.Path.{sym, ap, _∙_}
 use Rattle.space_packet.specs.Answer.{sizeAnswer}
 use Rattle.space_packet.specs.declared.SizeResult.{SizeResult}
-use Rattle.ecss_tc.specs.Creator.{creatorAnswer}
+use Rattle.tc_write.specs.Creator.{creatorAnswer}
 use Rattle.bench_write.specs.Numbers.{sizeNumber}
 use Rattle.bench_write.proofs.Writes.{not-made, made-written}
 use borrow.Author.Needs.{needs}

@@ -1,6 +1,6 @@
 -- `report::after` meets its contract.
 use mathlib.Core.Path.{sym, ap, _∙_}
-use Rattle.strict.specs.declared.split.Step.{Step}
+use Rattle.tc_strict.specs.declared.split.Step.{Step}
 use Rattle.report.specs.Report.{behind}
 use borrow.Author.Needs.{needs}
 use Rattle.report.proofs.after.Statement.{statement}

@@ -4,7 +4,7 @@ use mathlib.Core.Path.{_≡_, refl}
 use native.Mathlib.Omega.{arith}
 use lib.ListN.{length}
 use Rattle.text.specs.Page.{page, laid}
-use Rattle.strict.specs.Split.{walk}
+use Rattle.tc_strict.specs.Split.{walk}
 use Rattle.report.specs.Report.{linesOf}
 use Rattle.report.proofs.Lines.{Left, on, done}
 use Rattle.report.proofs.put_lines.Statement.{statement}

@@ -2,8 +2,8 @@
 use mathlib.Core.Path.{sym, ap, _∙_}
 use Rattle.text.specs.Page.{laid}
 use Rattle.text.proofs.Pages.{and-then}
-use Rattle.strict.specs.Split.{stepAnswer}
-use Rattle.strict.specs.declared.split.Step.{Step}
+use Rattle.tc_strict.specs.Split.{stepAnswer}
+use Rattle.tc_strict.specs.declared.split.Step.{Step}
 use Rattle.report.specs.Report.{lineOf, stepText}
 use borrow.Author.Needs.{needs}
 use Rattle.report.proofs.put_step.Statement.{statement}

@@ -7,8 +7,8 @@ use Rattle.text.specs.Ascii.{ascii}
 use Rattle.text.specs.Digits.{decimal}
 use Rattle.text.specs.Page.{laid}
 use Rattle.text.proofs.Pages.{and-then}
-use Rattle.strict.specs.Verdict.{verdictAnswer}
-use Rattle.strict.specs.declared.Verdict.{Verdict}
+use Rattle.tc_strict.specs.Verdict.{verdictAnswer}
+use Rattle.tc_strict.specs.declared.Verdict.{Verdict}
 use Rattle.report.specs.Report.{twoText, verdictText}
 use borrow.Author.Needs.{needs}
 use Rattle.report.proofs.put_verdict.Statement.{statement}

@@ -4,7 +4,7 @@ use Prim.Native.Nat.{_-_}
 use native.Mathlib.Omega.{arith}
 use lib.ListN.{length, drop}
 use borrow.Author.Needs.{needs}
-use Rattle.crc_step.specs.Crc.{crcFrom}
+use Rattle.crc_register.specs.Crc.{crcFrom}
 use Rattle.crc_fold.specs.Word.{Left}
 use Rattle.crc_fold.specs.Folded.{octs4}
 use Rattle.crc_fold.proofs.Rows.{along, same}

@@ -1,7 +1,7 @@
 -- `crc_fold::folded::down` meets its contract.
 use mathlib.Core.Path.{ap, _∙_}
 use borrow.Author.Needs.{needs}
-use Rattle.crc_step.specs.Crc.{crcFrom}
+use Rattle.crc_register.specs.Crc.{crcFrom}
 use Rattle.crc_fold.specs.Folded.{lows4, lows16}
 use Rattle.crc_fold.proofs.Rows.{in-turn}
 use Rattle.crc_fold.proofs.folded.down.Statement.{statement}

@@ -2,7 +2,7 @@
 use mathlib.Core.Path.{refl, sym, ap, _∙_}
 use native.Mathlib.Omega.{arith}
 use borrow.Author.Needs.{needs}
-use Rattle.crc_step.specs.Crc.{_⊕_, crcFrom}
+use Rattle.crc_register.specs.Crc.{_⊕_, crcFrom}
 use Rattle.crc_fold.specs.Word.{lows}
 use Rattle.crc_fold.specs.Folded.{lows4}
 use Rattle.crc_fold.proofs.Word.{met-low}

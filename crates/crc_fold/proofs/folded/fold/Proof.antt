@@ -1,7 +1,7 @@
 -- `crc_fold::folded::fold` meets its contract.
 use native.Mathlib.Omega.{arith}
 use borrow.Author.Needs.{needs}
-use Rattle.crc_step.specs.Crc.{_⊕_}
+use Rattle.crc_register.specs.Crc.{_⊕_}
 use Rattle.crc_fold.specs.Folded.{octs4}
 use Rattle.crc_fold.proofs.Fold.{fold-words}
 use Rattle.crc_fold.proofs.folded.fold.Statement.{statement}

@@ -1,6 +1,6 @@
 -- `crc_fold::folded::fold_four` meets its contract.
 use borrow.Author.Needs.{needs}
-use Rattle.crc_step.specs.Crc.{crcFrom}
+use Rattle.crc_register.specs.Crc.{crcFrom}
 use Rattle.crc_fold.specs.Word.{octs}
 use Rattle.crc_fold.specs.Folded.{octs4}
 use Rattle.crc_fold.proofs.Rows.{in-turn}

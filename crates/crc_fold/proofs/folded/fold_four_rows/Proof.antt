@@ -1,6 +1,6 @@
 -- `crc_fold::folded::fold_four_rows` meets its contract.
 use borrow.Author.Needs.{needs}
-use Rattle.crc_step.specs.Crc.{crcFrom}
+use Rattle.crc_register.specs.Crc.{crcFrom}
 use Rattle.crc_fold.specs.Folded.{lows16}
 use Rattle.crc_fold.proofs.Rows.{twice}
 use Rattle.crc_fold.proofs.folded.fold_four_rows.Statement.{statement}

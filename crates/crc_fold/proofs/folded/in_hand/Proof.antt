@@ -2,7 +2,7 @@
 use mathlib.Core.Path.{ap, _∙_}
 use native.Mathlib.Omega.{arith}
 use borrow.Author.Needs.{needs}
-use Rattle.crc_step.specs.Crc.{crcFrom}
+use Rattle.crc_register.specs.Crc.{crcFrom}
 use Rattle.crc_fold.proofs.Rows.{start, along}
 use Rattle.crc_fold.proofs.folded.in_hand.Statement.{statement}
 use Rattle.crc_fold.proofs.folded.in_hand.Tie as tie

@@ -1,6 +1,6 @@
 -- `crc_fold::folded::sum` meets its contract.
 use borrow.Author.Needs.{needs}
-use Rattle.crc_step.specs.Crc.{_⊕_}
+use Rattle.crc_register.specs.Crc.{_⊕_}
 use Rattle.crc_fold.specs.Folded.{lows4}
 use Rattle.crc_fold.proofs.Fold.{sum-words}
 use Rattle.crc_fold.proofs.folded.sum.Statement.{statement}

@@ -3,8 +3,8 @@ use mathlib.Core.Path.{refl}
 use native.Mathlib.Omega.{arith}
 use lib.ListN.{drop}
 use borrow.Author.Needs.{needs}
-use Rattle.crc_step.specs.Crc.{crcFrom}
-use Rattle.crc_step.proofs.Linear.{Kept, turn, end}
+use Rattle.crc_register.specs.Crc.{crcFrom}
+use Rattle.crc_register.proofs.Linear.{Kept, turn, end}
 use Rattle.crc_fold.proofs.words.below_two.Statement.{statement}
 use Rattle.crc_fold.proofs.words.below_two.Tie as tie
 

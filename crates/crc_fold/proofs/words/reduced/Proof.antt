@@ -1,7 +1,7 @@
 -- `crc_fold::words::reduced` meets its contract: a test at each of the 64 bits.
 use native.Mathlib.Omega.{arith}
 use borrow.Author.Needs.{needs}
-use Rattle.crc_step.specs.Crc.{_⊕_}
+use Rattle.crc_register.specs.Crc.{_⊕_}
 use Rattle.crc_fold.proofs.Word.{shifts8, by-shifts}
 use Rattle.crc_fold.proofs.words.reduced.Statement.{statement}
 use Rattle.crc_fold.proofs.words.reduced.Tie as tie

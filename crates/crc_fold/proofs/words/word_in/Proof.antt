@@ -2,7 +2,7 @@
 use mathlib.Core.Path.{_∙_}
 use native.Mathlib.Omega.{arith}
 use borrow.Author.Needs.{needs}
-use Rattle.crc_step.specs.Crc.{_⊕_}
+use Rattle.crc_register.specs.Crc.{_⊕_}
 use Rattle.crc_fold.proofs.Word.{met8}
 use Rattle.crc_fold.proofs.words.word_in.Statement.{statement}
 use Rattle.crc_fold.proofs.words.word_in.Tie as tie

@@ -29,7 +29,7 @@ word-at-requires : tie.Need-word-at-requires
 word-at-requires c κs = search needs
 
 front-requires : tie.Need-front-requires
-front-requires c κs = let e = sym (c .before .before .before .before .frame-of .ensures) ∙ ap sizeAnswer (c .before .before .f2 .given .1) in let q = frame-total _ _ _ _ e in omega arith
+front-requires c κs = search needs
 
 verify-crc16-ccitt-false-from-raw-to-pus-error-requires : tie.Need-verify-crc16-ccitt-false-from-raw-to-pus-error-requires
 verify-crc16-ccitt-false-from-raw-to-pus-error-requires c κs = search needs

@@ -22,9 +22,6 @@ slice-aggregate-result c = search needs
 enum-known-f : tie.Need-enum-known-f
 enum-known-f c = search needs
 
-add-start : tie.Need-add-start
-add-start c = search needs
-
 trailer-len-requires : tie.Need-trailer-len-requires
 trailer-len-requires c κs = search needs
 
@@ -54,7 +51,6 @@ data-part-spec =
     enum-told
     slice-aggregate-result
     enum-known-f
-    add-start
     trailer-len-requires
     sub-end
     sub-result

@@ -11,9 +11,6 @@ use Rattle.ecss.proofs.frame.frame_of.Lts as lts
 use Rattle.ecss.proofs.frame.too_small.Reads as too-small-reads
 use Rattle.space_packet.proofs.word_at.Reads as word-at-reads
 
-add-start : tie.Need-add-start
-add-start c = search needs
-
 too-small-requires : tie.Need-too-small-requires
 too-small-requires c κs = search needs
 
@@ -69,7 +66,6 @@ pub frame-of-spec : {M : Type 1} → statement M
 frame-of-spec =
     tie.close
     (tie.spec
-    add-start
     too-small-requires
     returns
     word-at-requires

@@ -23,7 +23,7 @@ enum-known-f : tie.Need-enum-known-f
 enum-known-f c = search needs
 
 front-requires : tie.Need-front-requires
-front-requires c κs = let e = sym (c .before .before .before .frame-of .ensures) ∙ ap sizeAnswer (c .before .f .given .1) in let q = frame-total _ _ _ _ e in omega arith
+front-requires c κs = search needs
 
 returns : tie.Need-returns
 returns c = let e = sym (c .before .before .before .frame-of .ensures) ∙ ap sizeAnswer (c .before .enum-told .given .1) in simp e

@@ -16,8 +16,8 @@ enum-known-c c = search needs
 enum-told : tie.Need-enum-told
 enum-told c = search needs
 
-trailer-requires : tie.Need-trailer-requires
-trailer-requires c κs = search needs
+trailer-len-requires : tie.Need-trailer-len-requires
+trailer-len-requires c κs = search needs
 
 sub-t8 : tie.Need-sub-t8
 sub-t8 c = let e = sym (c .before .before .before .before .check-in .ensures) ∙ ap checkAnswer (c .before .before .enum-told .given .1) in let q = holds-in _ _ _ e .0 in omega arith
@@ -26,9 +26,9 @@ returns : tie.Need-returns
 returns c = let e = sym (c .before .before .before .check-in .ensures) ∙ ap checkAnswer (c .before .c .given .1) in sym (refuses-then _ _ _ e)
 
 returns-2 : tie.Need-returns-2
-returns-2 c = let e = sym (c .before .before .before .before .check-in .ensures) ∙ ap checkAnswer (c .before .before .enum-told .given .1) in bounds-give _ (c .before .before .before .before .before .args .self) _ _ e (c .before .trailer .ensures)
+returns-2 c = let e = sym (c .before .before .before .before .check-in .ensures) ∙ ap checkAnswer (c .before .before .enum-told .given .1) in bounds-give _ (c .before .before .before .before .before .args .self) _ _ e (c .before .trailer-len .ensures)
 
 pub bounds-spec : {M : Type 1} → statement M
 bounds-spec =
     tie.close
-    (tie.spec check-in-requires enum-known-c enum-told trailer-requires sub-t8 returns returns-2)
+    (tie.spec check-in-requires enum-known-c enum-told trailer-len-requires sub-t8 returns returns-2)

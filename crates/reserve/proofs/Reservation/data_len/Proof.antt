@@ -16,8 +16,8 @@ enum-known-c c = search needs
 enum-told : tie.Need-enum-told
 enum-told c = search needs
 
-trailer-requires : tie.Need-trailer-requires
-trailer-requires c κs = search needs
+trailer-len-requires : tie.Need-trailer-len-requires
+trailer-len-requires c κs = search needs
 
 sub-t7 : tie.Need-sub-t7
 sub-t7 c = let e = sym (c .before .before .before .before .check .ensures) ∙ ap checkAnswer (c .before .before .enum-told .given .1) in let q = holds-is _ _ e in omega arith
@@ -29,7 +29,7 @@ returns : tie.Need-returns
 returns c = let e = sym (c .before .before .before .check .ensures) ∙ ap checkAnswer (c .before .c .given .1) in sym (refuses-then _ _ _ e)
 
 returns-2 : tie.Need-returns-2
-returns-2 c = let e = sym (c .before .before .before .before .before .check .ensures) ∙ ap checkAnswer (c .before .before .before .enum-told .given .1) in data-len-gives _ (c .before .before .before .before .before .before .args .self) _ e (c .before .before .trailer .ensures)
+returns-2 c = let e = sym (c .before .before .before .before .before .check .ensures) ∙ ap checkAnswer (c .before .before .before .enum-told .given .1) in data-len-gives _ (c .before .before .before .before .before .before .args .self) _ e (c .before .before .trailer-len .ensures)
 
 pub data-len-spec : {M : Type 1} → statement M
 data-len-spec =
@@ -38,7 +38,7 @@ data-len-spec =
     check-requires
     enum-known-c
     enum-told
-    trailer-requires
+    trailer-len-requires
     sub-t7
     sub-t8
     returns

@@ -38,7 +38,7 @@ same-length : tie.Need-same-length
 same-length c = search needs
 
 returns-2 : tie.Need-returns-2
-returns-2 c = let a = c .before .before .before .before .before .before .before .before .before .before .args in let e = sym (c .before .before .before .before .before .before .before .bounds .ensures) ∙ ap boundsAnswer (c .before .before .before .before .before .b2 .given .1) in fill-wrote (6 + a .size) (a .self) (a .buf .now) (a .«data» .now) _ _ _ (bounds-are _ _ _ _ e) (c .before .before .fill .ensures)
+returns-2 c = let a = c .before .before .before .before .before .before .before .before .before .before .args in let e = sym (c .before .before .before .before .before .before .before .bounds .ensures) ∙ ap boundsAnswer (c .before .before .before .before .before .b2 .given .1) in fill-wrote (a .start) (a .self) (a .buf .now) (a .«data» .now) _ _ _ (bounds-are _ _ _ _ e) (c .before .before .fill .ensures)
 
 pub fill-spec : {M : Type 1} → statement M
 fill-spec =

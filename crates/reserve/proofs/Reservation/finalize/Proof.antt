@@ -33,7 +33,7 @@ same-length : tie.Need-same-length
 same-length c = search needs
 
 returns : tie.Need-returns
-returns c = let a = c .before .before .before .before .before .before .before .before .before .before .before .args in let e = sym (c .before .before .before .before .before .before .before .before .before .check-in .ensures) ∙ ap checkAnswer (c .before .before .before .before .before .before .before .enum-told .given .1) in finish-sealed (6 + a .size) (a .self) (a .buf .now) _ _ e (c .before .before .before .before .before .before .if1 .taken) (omega arith) (c .before .before .seal .ensures)
+returns c = let a = c .before .before .before .before .before .before .before .before .before .before .before .args in let e = sym (c .before .before .before .before .before .before .before .before .before .check-in .ensures) ∙ ap checkAnswer (c .before .before .before .before .before .before .before .enum-told .given .1) in finish-sealed (a .start) (a .self) (a .buf .now) _ _ e (c .before .before .before .before .before .before .if1 .taken) (omega arith) (c .before .before .seal .ensures)
 
 returns-2 : tie.Need-returns-2
 unfolding finishIn

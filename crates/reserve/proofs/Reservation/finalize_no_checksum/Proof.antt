@@ -3,7 +3,7 @@ use native.Mathlib.Omega.{arith}
 use Rattle.space_packet.proofs.Answers.{gives-then, refuses-then}
 use Rattle.space_packet.specs.Answer.{checkAnswer}
 use Rattle.reserve.proofs.Reserved.{holds-in}
-use Rattle.reserve.specs.Reserve.{plainIn}
+use Rattle.reserve.specs.Reserve.{bareIn}
 use borrow.Author.Needs.{needs}
 use Rattle.reserve.proofs.Reservation.finalize_no_checksum.Statement.{statement}
 use Rattle.reserve.proofs.Reservation.finalize_no_checksum.Tie as tie
@@ -17,21 +17,21 @@ enum-known-c c = search needs
 enum-told : tie.Need-enum-told
 enum-told c = search needs
 
-trailer-requires : tie.Need-trailer-requires
-trailer-requires c κs = search needs
+trailer-len-requires : tie.Need-trailer-len-requires
+trailer-len-requires c κs = search needs
 
 sub-t9 : tie.Need-sub-t9
 sub-t9 c = let e = sym (c .before .before .before .before .check-in .ensures) ∙ ap checkAnswer (c .before .before .enum-told .given .1) in let q = holds-in _ _ _ e .0 in omega arith
 
 returns : tie.Need-returns
-unfolding plainIn
+unfolding bareIn
 returns c = let e = sym (c .before .before .before .check-in .ensures) ∙ ap checkAnswer (c .before .c .given .1) in sym (refuses-then _ _ _ e)
 
 returns-2 : tie.Need-returns-2
-unfolding plainIn
-returns-2 c = let e = sym (c .before .before .before .before .check-in .ensures) ∙ ap checkAnswer (c .before .before .enum-told .given .1) in rw (c .before .trailer .ensures) (sym (gives-then _ _ _ e))
+unfolding bareIn
+returns-2 c = let e = sym (c .before .before .before .before .check-in .ensures) ∙ ap checkAnswer (c .before .before .enum-told .given .1) in rw (c .before .trailer-len .ensures) (sym (gives-then _ _ _ e))
 
 pub finalize-no-checksum-spec : {M : Type 1} → statement M
 finalize-no-checksum-spec =
     tie.close
-    (tie.spec check-in-requires enum-known-c enum-told trailer-requires sub-t9 returns returns-2)
+    (tie.spec check-in-requires enum-known-c enum-told trailer-len-requires sub-t9 returns returns-2)

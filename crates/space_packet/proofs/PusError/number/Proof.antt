@@ -1,94 +1,15 @@
-use mathlib.Core.Path.{sym, ap, _∙_}
-use Rattle.space_packet.specs.Answer.{numbersOf}
+-- `PusError::number` meets its contract: it is the first of the refusal's numbers.
+use mathlib.Core.Path.{ap}
+use Rattle.space_packet.specs.declared.RefusalNumbers.{RefusalNumbers}
 use borrow.Author.Needs.{needs}
 use Rattle.space_packet.proofs.PusError.number.Statement.{statement}
 use Rattle.space_packet.proofs.PusError.number.Tie as tie
 
-enum-known-self : tie.Need-enum-known-self
-enum-known-self c = search needs
-
-number-requires : tie.Need-number-requires
-number-requires c κs = search needs
-
-enum-told : tie.Need-enum-told
-enum-told c = search needs
-
-enum-told-2 : tie.Need-enum-told-2
-enum-told-2 c = search needs
-
-enum-told-3 : tie.Need-enum-told-3
-enum-told-3 c = search needs
-
-enum-told-4 : tie.Need-enum-told-4
-enum-told-4 c = search needs
-
-enum-told-5 : tie.Need-enum-told-5
-enum-told-5 c = search needs
-
-enum-told-6 : tie.Need-enum-told-6
-enum-told-6 c = search needs
-
-enum-told-7 : tie.Need-enum-told-7
-enum-told-7 c = search needs
-
-enum-told-8 : tie.Need-enum-told-8
-enum-told-8 c = search needs
-
-enum-told-9 : tie.Need-enum-told-9
-enum-told-9 c = search needs
+numbers-requires : tie.Need-numbers-requires
+numbers-requires c κs = search needs
 
 returns : tie.Need-returns
-returns c = c .number .ensures ∙ sym (ap (λ e. numbersOf e .number) (c .before .before .self .given .1))
-
-returns-2 : tie.Need-returns-2
-returns-2 c = sym (ap (λ e. numbersOf e .number) (c .enum-told .given .1))
-
-returns-3 : tie.Need-returns-3
-returns-3 c = sym (ap (λ e. numbersOf e .number) (c .enum-told2 .given .1))
-
-returns-4 : tie.Need-returns-4
-returns-4 c = sym (ap (λ e. numbersOf e .number) (c .enum-told3 .given .1))
-
-returns-5 : tie.Need-returns-5
-returns-5 c = sym (ap (λ e. numbersOf e .number) (c .enum-told4 .given .1))
-
-returns-6 : tie.Need-returns-6
-returns-6 c = sym (ap (λ e. numbersOf e .number) (c .enum-told5 .given .1))
-
-returns-7 : tie.Need-returns-7
-returns-7 c = sym (ap (λ e. numbersOf e .number) (c .enum-told6 .given .1))
-
-returns-8 : tie.Need-returns-8
-returns-8 c = sym (ap (λ e. numbersOf e .number) (c .enum-told7 .given .1))
-
-returns-9 : tie.Need-returns-9
-returns-9 c = sym (ap (λ e. numbersOf e .number) (c .enum-told8 .given .1))
-
-returns-10 : tie.Need-returns-10
-returns-10 c = sym (ap (λ e. numbersOf e .number) (c .enum-told9 .given .1))
+returns c = ap (λ (n : RefusalNumbers). n .number) (c .numbers .ensures)
 
 pub number-spec : {M : Type 1} → statement M
-number-spec =
-    tie.close
-    (tie.spec
-    enum-known-self
-    number-requires
-    enum-told
-    enum-told-2
-    enum-told-3
-    enum-told-4
-    enum-told-5
-    enum-told-6
-    enum-told-7
-    enum-told-8
-    enum-told-9
-    returns
-    returns-2
-    returns-3
-    returns-4
-    returns-5
-    returns-6
-    returns-7
-    returns-8
-    returns-9
-    returns-10)
+number-spec = tie.close (tie.spec numbers-requires returns)

@@ -1,3 +1,4 @@
+use Prim.Native.Nat.{ℕ, _-_}
 use mathlib.Core.Path.{sym, ap, _∙_}
 use native.Mathlib.Omega.{arith}
 use Rattle.space_packet.specs.Header.{spHeaderAnswer}
@@ -36,8 +37,11 @@ enum-known-second c = search needs
 enum-known-second-2 : tie.Need-enum-known-second-2
 enum-known-second-2 c = search needs
 
-end-of-requires : tie.Need-end-of-requires
-end-of-requires c κs = search needs
+trailer-len-requires : tie.Need-trailer-len-requires
+trailer-len-requires c κs = search needs
+
+sub-end : tie.Need-sub-end
+sub-end c = search needs
 
 crc-taken-requires : tie.Need-crc-taken-requires
 crc-taken-requires c κs = search needs
@@ -49,7 +53,7 @@ returns-2 : tie.Need-returns-2
 returns-2 c = let e = sym (c .before .before .before .from-be-bytes2 .ensures) ∙ ap secAnswer (c .before .second .given .1) in absurd (never _ _ (sym e ∙ secondary-read (c .before .before .before .before .before .before .before .before .before .before .args .slice .now) (omega arith)))
 
 returns-3 : tie.Need-returns-3
-returns-3 c = let e = sym (c .before .before .before .before .before .before .before .before .before .before .from-be-bytes .ensures) ∙ ap spHeaderAnswer (c .before .before .before .before .before .before .before .before .header2 .given .1) in let f = sym (c .before .before .before .before .before .from-be-bytes2 .ensures) ∙ ap secAnswer (c .before .before .before .second2 .given .1) in ap R.Ok (record-read _ _ _ _ _ _ _ (omega arith) e f (c .before .end-of .ensures) (c .crc-taken .ensures))
+returns-3 c = let e = sym (c .before .before .before .before .before .before .before .before .before .before .from-be-bytes .ensures) ∙ ap spHeaderAnswer (c .before .before .before .before .before .before .before .before .header2 .given .1) in let f = sym (c .before .before .before .before .before .from-be-bytes2 .ensures) ∙ ap secAnswer (c .before .before .before .second2 .given .1) in ap R.Ok (record-read _ _ _ _ _ _ _ (omega arith) e f (ap (λ (k : ℕ). c .before .before .before .before .before .before .before .before .before .before .before .before .args .total - k) (c .before .trailer-len .ensures)) (c .crc-taken .ensures))
 
 pub of-spec : {M : Type 1} → statement M
 of-spec =
@@ -64,7 +68,8 @@ of-spec =
     from-be-bytes-requires-2
     enum-known-second
     enum-known-second-2
-    end-of-requires
+    trailer-len-requires
+    sub-end
     crc-taken-requires
     returns
     returns-2

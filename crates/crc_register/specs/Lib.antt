@@ -1,0 +1,4 @@
+pub mod Crc
+pub mod Added
+pub mod Division
+pub mod Table

@@ -1,4 +1,0 @@
-pub mod Given
-pub mod Demand3
-pub mod Cases
-pub mod Bits

@@ -1,0 +1,62 @@
+-- `ecss::pus_rule` meets its contract: each test is the definition's, the packet's type by its number.
+use mathlib.Core.Path.{_≡_, sym, ap, ap₂, _∙_}
+use Prim.Native.Nat.{ℕ}
+use mathlib.Core.Bool.{Bool}
+use lib.Dec.{eqb}
+use borrow.Author.Tests.{not-true, not-false, eq-eqb, ne-eqb}
+use Rattle.space_packet.specs.Answer.{refuseIf}
+use Rattle.space_packet.specs.Fields.{typeNumber}
+use Rattle.ecss.specs.Kind.{pusRule}
+use borrow.Author.Needs.{needs}
+use Rattle.ecss.proofs.pus_rule.Statement.{statement}
+use Rattle.ecss.proofs.pus_rule.Tie as tie
+
+-- the test of the types, by the numbers that were compared
+types : (a b c d : ℕ) (t : Bool) → a ≡ c → b ≡ d → eqb a b ≡ t → eqb c d ≡ t
+types a b c d t p q e = sym (ap₂ eqb p q) ∙ e
+
+returns : tie.Need-returns
+unfolding pusRule refuseIf
+returns c = simp (ne-eqb _ _ (c .if1 .taken))
+
+packet-type-requires : tie.Need-packet-type-requires
+packet-type-requires c κs = search needs
+
+raw-value-requires : tie.Need-raw-value-requires
+raw-value-requires c κs = search needs
+
+raw-value-requires-2 : tie.Need-raw-value-requires-2
+raw-value-requires-2 c κs = search needs
+
+returns-2 : tie.Need-returns-2
+unfolding pusRule refuseIf
+returns-2 c = simp (eq-eqb _ _ (c .before .before .before .before .if1 .left), types _ _ _ _ _ (c .before .before .raw-value .ensures ∙ ap typeNumber (c .before .before .before .packet-type .ensures)) (c .before .raw-value2 .ensures) (ne-eqb _ _ (c .if2 .taken)))
+
+sec-header-flag-requires : tie.Need-sec-header-flag-requires
+sec-header-flag-requires c κs = search needs
+
+returns-3 : tie.Need-returns-3
+unfolding pusRule refuseIf
+returns-3 c = simp (eq-eqb _ _ (c .before .before .before .before .before .before .if1 .left), types _ _ _ _ _ (c .before .before .before .before .raw-value .ensures ∙ ap typeNumber (c .before .before .before .before .before .packet-type .ensures)) (c .before .before .before .raw-value2 .ensures) (eq-eqb _ _ (c .before .before .if2 .left)), sym (c .before .sec-header-flag .ensures) ∙ not-true (c .before .sec-header-flag .result) (c .if3 .taken))
+
+returns-4 : tie.Need-returns-4
+unfolding pusRule refuseIf
+returns-4 c = simp (eq-eqb _ _ (c .before .before .before .before .before .before .before .if1 .left), types _ _ _ _ _ (c .before .before .before .before .before .raw-value .ensures ∙ ap typeNumber (c .before .before .before .before .before .before .packet-type .ensures)) (c .before .before .before .before .raw-value2 .ensures) (eq-eqb _ _ (c .before .before .before .if2 .left)), sym (c .before .before .sec-header-flag .ensures) ∙ not-false (c .before .before .sec-header-flag .result) (c .before .if3 .left), ne-eqb _ _ (c .if4 .taken))
+
+returns-5 : tie.Need-returns-5
+unfolding pusRule refuseIf
+returns-5 c = simp (eq-eqb _ _ (c .before .before .before .before .before .before .before .if1 .left), types _ _ _ _ _ (c .before .before .before .before .before .raw-value .ensures ∙ ap typeNumber (c .before .before .before .before .before .before .packet-type .ensures)) (c .before .before .before .before .raw-value2 .ensures) (eq-eqb _ _ (c .before .before .before .if2 .left)), sym (c .before .before .sec-header-flag .ensures) ∙ not-false (c .before .before .sec-header-flag .result) (c .before .if3 .left), eq-eqb _ _ (c .if4 .left))
+
+pub pus-rule-spec : {M : Type 1} → statement M
+pus-rule-spec =
+    tie.close
+    (tie.spec
+    returns
+    packet-type-requires
+    raw-value-requires
+    raw-value-requires-2
+    returns-2
+    sec-header-flag-requires
+    returns-3
+    returns-4
+    returns-5)

@@ -1,0 +1,22 @@
+-- `packet::asked_last` meets its contract.
+use mathlib.Core.Path.{sym, ap}
+use Rattle.space_packet.specs.Answer.{checkAnswer}
+use Rattle.space_packet.proofs.Answers.{gives-then, refuses-then}
+use borrow.Author.Needs.{needs}
+use Rattle.ecss_write.proofs.packet.asked_last.Statement.{statement}
+use Rattle.ecss_write.proofs.packet.asked_last.Tie as tie
+
+enum-known-last : tie.Need-enum-known-last
+enum-known-last c = search needs
+
+enum-told : tie.Need-enum-told
+enum-told c = search needs
+
+returns : tie.Need-returns
+returns c = sym (refuses-then _ _ _ (ap checkAnswer (c .before .last .given .1)))
+
+returns-2 : tie.Need-returns-2
+returns-2 c = sym (gives-then _ _ _ (ap checkAnswer (c .enum-told .given .1)))
+
+pub asked-last-spec : {M : Type 1} → statement M
+asked-last-spec = tie.close (tie.spec enum-known-last enum-told returns returns-2)

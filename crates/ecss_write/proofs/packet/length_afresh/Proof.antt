@@ -1,0 +1,37 @@
+use Prim.Native.Nat.{_+_}
+use mathlib.Core.Path.{_∙_, ap, sym, refl}
+use Rattle.ecss_write.specs.Write.{writeWith, reserveWith, ownWith, fieldWith, askedBy}
+use Rattle.ecss_write.specs.Write.{totalFor, machineTotal, lengthField, writeIn, dataLenAnswer}
+use Rattle.ecss_write.proofs.Written.{afresh-refused, afresh-set}
+use borrow.Author.Needs.{needs}
+use Rattle.ecss_write.proofs.packet.length_afresh.Statement.{statement}
+use Rattle.ecss_write.proofs.packet.length_afresh.Tie as tie
+
+length-for-requires : tie.Need-length-for-requires
+length-for-requires c κs = search needs
+
+enum-known-field : tie.Need-enum-known-field
+enum-known-field c = search needs
+
+enum-known-field-2 : tie.Need-enum-known-field-2
+enum-known-field-2 c = search needs
+
+with-length-requires : tie.Need-with-length-requires
+with-length-requires c κs = search needs
+
+returns : tie.Need-returns
+returns c = let a = c .before .before .before .before .args in afresh-refused (askedBy (a .asks) (a .h)) (a .start) (a .has-checksum) (a .data-len) (a .h .«data_len») (a .h) _ (sym (c .before .before .before .length-for .ensures) ∙ ap dataLenAnswer (c .before .field .given .1))
+
+returns-2 : tie.Need-returns-2
+returns-2 c = let a = c .before .before .before .before .before .args in afresh-set (askedBy (a .asks) (a .h)) (a .start) (a .has-checksum) (a .data-len) (a .h .«data_len») (a .h) _ _ (sym (c .before .before .before .before .length-for .ensures) ∙ ap dataLenAnswer (c .before .before .field2 .given .1)) (c .with-length .ensures)
+
+pub length-afresh-spec : {M : Type 1} → statement M
+length-afresh-spec =
+    tie.close
+    (tie.spec
+    length-for-requires
+    enum-known-field
+    enum-known-field-2
+    with-length-requires
+    returns
+    returns-2)

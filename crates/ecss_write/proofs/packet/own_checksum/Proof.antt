@@ -1,0 +1,82 @@
+use lib.ListN.{replicate}
+use Rattle.space_packet.specs.Header.{headerOctets}
+use mathlib.Core.Path.{_∙_, ap, sym, refl}
+use native.Mathlib.Omega.{arith}
+use Rattle.space_packet.proofs.Answers.{gives-then, refuses-then, refuse-no, refuse-yes, left-refused, left-written}
+use Rattle.space_packet.specs.Answer.{checkAnswer, sizeAnswer, gives}
+use Rattle.ecss_write.specs.Write.{writeWith, reserveWith, ownWith, fieldWith, askedBy}
+use Rattle.ecss_write.proofs.Written.{head-asked, own-head, own-given}
+use borrow.Author.Needs.{needs}
+use Rattle.ecss_write.proofs.packet.own_checksum.Statement.{statement}
+use Rattle.ecss_write.proofs.packet.own_checksum.Tie as tie
+
+before-requires : tie.Need-before-requires
+before-requires c κs = search needs
+
+enum-known-c : tie.Need-enum-known-c
+enum-known-c c = search needs
+
+enum-told : tie.Need-enum-told
+enum-told c = search needs
+
+enum-known-version : tie.Need-enum-known-version
+enum-known-version c = search needs
+
+enum-told-2 : tie.Need-enum-told-2
+enum-told-2 c = search needs
+
+slice-aggregate-write-to-slice : tie.Need-slice-aggregate-write-to-slice
+slice-aggregate-write-to-slice c = search needs
+
+write-to-slice-requires : tie.Need-write-to-slice-requires
+write-to-slice-requires c κs = search needs
+
+new-requires : tie.Need-new-requires
+new-requires c κs = search needs
+
+slice-aggregate-update-no-table : tie.Need-slice-aggregate-update-no-table
+slice-aggregate-update-no-table c = search needs
+
+update-no-table-requires : tie.Need-update-no-table-requires
+update-no-table-requires c κs = search needs
+
+update-no-table-requires-2 : tie.Need-update-no-table-requires-2
+update-no-table-requires-2 c κs = search needs
+
+update-no-table-requires-3 : tie.Need-update-no-table-requires-3
+update-no-table-requires-3 c κs = search needs
+
+finalize-requires : tie.Need-finalize-requires
+finalize-requires c κs = search needs
+
+returns : tie.Need-returns
+unfolding ownWith
+returns c = sym (refuses-then _ _ _ (sym (c .before .before .before .before2 .ensures) ∙ ap checkAnswer (c .before .c .given .1)))
+
+returns-2 : tie.Need-returns-2
+unfolding ownWith
+returns-2 c = sym (gives-then _ _ _ (sym (c .before .before .before .before .before .before2 .ensures) ∙ ap checkAnswer (c .before .before .before .enum-told .given .1)) ∙ refuses-then _ _ _ (ap checkAnswer (c .before .version .given .1)))
+
+returns-3 : tie.Need-returns-3
+returns-3 c = let a = c .before .before .before .before .before .before .before .before .before .before .before .before .before .before .before .before .args in let p = sym (c .before .before .before .before .before .before .before .before .before .before .before .before .before .before2 .ensures) ∙ ap checkAnswer (c .before .before .before .before .before .before .before .before .before .before .before .enum-told .given .1) in let v = ap checkAnswer (c .before .before .before .before .before .before .before .before .before .enum-told2 .given .1) in own-given _ _ (headerOctets (a .h)) _ (a .sec .now) (a .«data» .now) _ _ _ _ _ p v (own-head (a .h) (replicate 6 0) _ (head-asked _ _ _ p) refl (c .before .before .before .before .before .before .before .write-to-slice .ensures .left)) (c .before .before .before .before .before .new .ensures) (c .before .before .before .update-no-table .ensures) (c .before .before .update-no-table2 .ensures) (c .before .update-no-table3 .ensures) (c .finalize .ensures)
+
+pub own-checksum-spec : {M : Type 1} → statement M
+own-checksum-spec =
+    tie.close
+    (tie.spec
+    before-requires
+    enum-known-c
+    enum-told
+    enum-known-version
+    enum-told-2
+    slice-aggregate-write-to-slice
+    write-to-slice-requires
+    new-requires
+    slice-aggregate-update-no-table
+    update-no-table-requires
+    update-no-table-requires-2
+    update-no-table-requires-3
+    finalize-requires
+    returns
+    returns-2
+    returns-3)

@@ -1,0 +1,52 @@
+use native.Mathlib.Omega.{arith}
+use native.Mathlib.Numerals.{add-one}
+use lib.Seq.{sets-eq}
+use lib.ListN.{take, length-set}
+use Rattle.space_packet.specs.Bits.{be16}
+use Rattle.crc_register.specs.Crc.{crcOf}
+use Rattle.ecss.specs.Frame.{sealed}
+use borrow.Author.Needs.{needs}
+use Rattle.ecss_write.proofs.put_checksum.Statement.{statement}
+use Rattle.ecss_write.proofs.put_checksum.Tie as tie
+
+front-requires : tie.Need-front-requires
+front-requires c κs = search needs
+
+crc-ccitt-false-no-table-requires : tie.Need-crc-ccitt-false-no-table-requires
+crc-ccitt-false-no-table-requires c κs = search needs
+
+cast-buf : tie.Need-cast-buf
+cast-buf c = search needs
+
+slice-write-buf : tie.Need-slice-write-buf
+slice-write-buf c = search needs
+
+cast-buf-2 : tie.Need-cast-buf-2
+cast-buf-2 c = search needs
+
+add-buf : tie.Need-add-buf
+add-buf c = search needs
+
+slice-write-buf-2 : tie.Need-slice-write-buf-2
+slice-write-buf-2 c = simp length-set (omega arith)
+
+same-length : tie.Need-same-length
+same-length c = search needs
+
+returns : tie.Need-returns
+unfolding sealed
+returns c = let a = c .before .before .before .before .args in rw (c .crc-ccitt-false-no-table .ensures, c .before .front .ensures, add-one (a .end), sets-eq (be16 (crcOf (take (a .end) (a .buf .now)))) (a .buf .now) (a .end) (omega arith))
+
+pub put-checksum-spec : {M : Type 1} → statement M
+put-checksum-spec =
+    tie.close
+    (tie.spec
+    front-requires
+    crc-ccitt-false-no-table-requires
+    cast-buf
+    slice-write-buf
+    cast-buf-2
+    add-buf
+    slice-write-buf-2
+    same-length
+    returns)

@@ -1,0 +1,35 @@
+-- `ByteConversionError::numbers` meets its contract.
+use mathlib.Core.Path.{sym, ap, _∙_}
+use Rattle.space_packet.specs.Answer.{bytesNumbers, inNumbers}
+use borrow.Author.Needs.{needs}
+use Rattle.space_packet.proofs.ByteConversionError.numbers.Statement.{statement}
+use Rattle.space_packet.proofs.ByteConversionError.numbers.Tie as tie
+
+enum-known-self : tie.Need-enum-known-self
+enum-known-self c = search needs
+
+in-numbers-requires : tie.Need-in-numbers-requires
+in-numbers-requires c κs = search needs
+
+enum-known-self-2 : tie.Need-enum-known-self-2
+enum-known-self-2 c = search needs
+
+in-numbers-requires-2 : tie.Need-in-numbers-requires-2
+in-numbers-requires-2 c κs = search needs
+
+returns : tie.Need-returns
+returns c = c .in-numbers .ensures ∙ ap (λ e. inNumbers (bytesNumbers e)) (sym (c .before .before .self .given .1))
+
+returns-2 : tie.Need-returns-2
+returns-2 c = c .in-numbers2 .ensures ∙ ap (λ e. inNumbers (bytesNumbers e)) (sym (c .before .before .self2 .given .1))
+
+pub numbers-spec : {M : Type 1} → statement M
+numbers-spec =
+    tie.close
+    (tie.spec
+    enum-known-self
+    in-numbers-requires
+    enum-known-self-2
+    in-numbers-requires-2
+    returns
+    returns-2)

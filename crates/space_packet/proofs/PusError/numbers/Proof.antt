@@ -1,0 +1,156 @@
+-- `PusError::numbers` meets its contract: each arm is its line of the table.
+use mathlib.Core.Path.{_≡_, sym, ap, _∙_}
+use Rattle.space_packet.specs.Answer.{numbersOf, inNumbers}
+use Rattle.space_packet.specs.declared.PusError.{PusError}
+use Rattle.space_packet.specs.declared.RefusalNumbers.{RefusalNumbers}
+use borrow.Author.Needs.{needs}
+use Rattle.space_packet.proofs.PusError.numbers.Statement.{statement}
+use Rattle.space_packet.proofs.PusError.numbers.Tie as tie
+
+told : {r : RefusalNumbers} {e d : PusError} → r ≡ inNumbers (numbersOf d) → e ≡ d → r ≡ inNumbers (numbersOf e)
+told p q = p ∙ ap (λ (z : PusError). inNumbers (numbersOf z)) (sym q)
+
+enum-known-self : tie.Need-enum-known-self
+enum-known-self c = search needs
+
+numbers-requires : tie.Need-numbers-requires
+numbers-requires c κs = search needs
+
+enum-known-self-2 : tie.Need-enum-known-self-2
+enum-known-self-2 c = search needs
+
+cast-in-numbers : tie.Need-cast-in-numbers
+cast-in-numbers c = search needs
+
+in-numbers-requires : tie.Need-in-numbers-requires
+in-numbers-requires c κs = search needs
+
+enum-known-self-3 : tie.Need-enum-known-self-3
+enum-known-self-3 c = search needs
+
+cast-in-numbers-2 : tie.Need-cast-in-numbers-2
+cast-in-numbers-2 c = search needs
+
+in-numbers-requires-2 : tie.Need-in-numbers-requires-2
+in-numbers-requires-2 c κs = search needs
+
+enum-told : tie.Need-enum-told
+enum-told c = search needs
+
+in-numbers-requires-3 : tie.Need-in-numbers-requires-3
+in-numbers-requires-3 c κs = search needs
+
+enum-known-self-4 : tie.Need-enum-known-self-4
+enum-known-self-4 c = search needs
+
+in-numbers-requires-4 : tie.Need-in-numbers-requires-4
+in-numbers-requires-4 c κs = search needs
+
+enum-known-self-5 : tie.Need-enum-known-self-5
+enum-known-self-5 c = search needs
+
+cast-in-numbers-3 : tie.Need-cast-in-numbers-3
+cast-in-numbers-3 c = search needs
+
+cast-in-numbers-4 : tie.Need-cast-in-numbers-4
+cast-in-numbers-4 c = search needs
+
+in-numbers-requires-5 : tie.Need-in-numbers-requires-5
+in-numbers-requires-5 c κs = search needs
+
+enum-told-2 : tie.Need-enum-told-2
+enum-told-2 c = search needs
+
+in-numbers-requires-6 : tie.Need-in-numbers-requires-6
+in-numbers-requires-6 c κs = search needs
+
+enum-known-self-6 : tie.Need-enum-known-self-6
+enum-known-self-6 c = search needs
+
+cast-in-numbers-5 : tie.Need-cast-in-numbers-5
+cast-in-numbers-5 c = search needs
+
+in-numbers-requires-7 : tie.Need-in-numbers-requires-7
+in-numbers-requires-7 c κs = search needs
+
+enum-told-3 : tie.Need-enum-told-3
+enum-told-3 c = search needs
+
+in-numbers-requires-8 : tie.Need-in-numbers-requires-8
+in-numbers-requires-8 c κs = search needs
+
+enum-told-4 : tie.Need-enum-told-4
+enum-told-4 c = search needs
+
+in-numbers-requires-9 : tie.Need-in-numbers-requires-9
+in-numbers-requires-9 c κs = search needs
+
+returns : tie.Need-returns
+returns c = told (c .numbers .ensures) (c .before .before .self .given .1)
+
+returns-2 : tie.Need-returns-2
+returns-2 c = told (c .in-numbers .ensures) (c .before .before .self2 .given .1)
+
+returns-3 : tie.Need-returns-3
+returns-3 c = told (c .in-numbers2 .ensures) (c .before .before .self3 .given .1)
+
+returns-4 : tie.Need-returns-4
+returns-4 c = told (c .in-numbers3 .ensures) (c .before .enum-told .given .1)
+
+returns-5 : tie.Need-returns-5
+returns-5 c = told (c .in-numbers4 .ensures) (c .before .before .self4 .given .1)
+
+returns-6 : tie.Need-returns-6
+returns-6 c = told (c .in-numbers5 .ensures) (c .before .before .self5 .given .1)
+
+returns-7 : tie.Need-returns-7
+returns-7 c = told (c .in-numbers6 .ensures) (c .before .enum-told2 .given .1)
+
+returns-8 : tie.Need-returns-8
+returns-8 c = told (c .in-numbers7 .ensures) (c .before .before .self6 .given .1)
+
+returns-9 : tie.Need-returns-9
+returns-9 c = told (c .in-numbers8 .ensures) (c .before .enum-told3 .given .1)
+
+returns-10 : tie.Need-returns-10
+returns-10 c = told (c .in-numbers9 .ensures) (c .before .enum-told4 .given .1)
+
+pub numbers-spec : {M : Type 1} → statement M
+numbers-spec =
+    tie.close
+    (tie.spec
+    enum-known-self
+    numbers-requires
+    enum-known-self-2
+    cast-in-numbers
+    in-numbers-requires
+    enum-known-self-3
+    cast-in-numbers-2
+    in-numbers-requires-2
+    enum-told
+    in-numbers-requires-3
+    enum-known-self-4
+    in-numbers-requires-4
+    enum-known-self-5
+    cast-in-numbers-3
+    cast-in-numbers-4
+    in-numbers-requires-5
+    enum-told-2
+    in-numbers-requires-6
+    enum-known-self-6
+    cast-in-numbers-5
+    in-numbers-requires-7
+    enum-told-3
+    in-numbers-requires-8
+    enum-told-4
+    in-numbers-requires-9
+    returns
+    returns-2
+    returns-3
+    returns-4
+    returns-5
+    returns-6
+    returns-7
+    returns-8
+    returns-9
+    returns-10)

@@ -1,0 +1,83 @@
+-- What a comparison says: yes exactly where both are read, and what it compares is equal.
+use Prim.Native.Nat.{ℕ}
+use mathlib.Core.Path.{_≡_, refl, ap, ap₂, _∙_}
+use mathlib.Core.Logic.{_↔_}
+use mathlib.Core.Bool.{Bool, true, false, _&&_}
+use mathlib.Core.List.{List}
+use native.Mathlib.Omega.{arith}
+use Rattle.space_packet.specs.Answer.{Answer, gives, refuses}
+use Rattle.space_packet.specs.Header.{sameHeader}
+use Rattle.space_packet.proofs.Same.{same-header}
+use Rattle.ecss.specs.Frame.{sameOctets}
+use Rattle.ecss.proofs.Octets.{same-octets}
+use Rattle.tc_header.specs.Header.{sameSec}
+use Rattle.tc_header.proofs.Same.{same-sec}
+use Rattle.tc_write.specs.declared.PusTcCreator.{PusTcCreator}
+use Rattle.tc_read.specs.Read.{readOf, appData, rawData}
+use Rattle.tc_compare.specs.Compare.{reportsCreator, equalsCreator, isRead, equalsReader}
+use Rattle.tc_read.specs.declared.PusTcRecord.{PusTcRecord}
+
+-- what was read compared with a creator, where both headers' comparisons are known
+pub creator-compared : (a : Answer PusTcRecord) (user : List ℕ) (t : PusTcCreator) (d : List ℕ) (r : PusTcRecord) (h x : Bool) → a ≡ gives r
+    → sameHeader (r .«sp_header») (t .«sp_header») ≡ h → sameSec (r .«sec_header») (t .«sec_header») ≡ x
+    → reportsCreator a user t d ≡ h && (x && sameOctets user d)
+creator-compared a user t d r h x p q s =
+    ap (λ (z : Answer PusTcRecord). reportsCreator z user t d) p ∙ ap₂ (λ (y z : Bool). y && (z && sameOctets user d)) q s
+
+no-yes : false ≡ true → ⊥
+no-yes e = let z : _≡_ {A = ℕ} 0 1 = cc in omega arith
+
+and-true : (a b : Bool) → a && b ≡ true → (a ≡ true) × (b ≡ true)
+and-true true b p = (refl, p)
+and-true false b p = absurd (no-yes p)
+
+-- what a reader that equals a creator read
+pub record ReadAsCreator (a : Answer PusTcRecord) (user : List ℕ) (t : PusTcCreator) (d : List ℕ) : Type 0 where
+  pub reported : PusTcRecord
+  pub is-read : a ≡ gives reported
+  pub primary-equal : reported .«sp_header» ≡ t .«sp_header»
+  pub secondary-equal : reported .«sec_header» ≡ t .«sec_header»
+  pub data-equal : user ≡ d
+
+says-creator : (a : Answer PusTcRecord) (user : List ℕ) (t : PusTcCreator) (d : List ℕ) → reportsCreator a user t d ≡ true → ReadAsCreator a user t d
+says-creator (refuses e) user t d p = absurd (no-yes p)
+says-creator (gives r) user t d p =
+    let h = and-true (sameHeader (r .«sp_header») (t .«sp_header»)) _ p in
+    let x = and-true (sameSec (r .«sec_header») (t .«sec_header»)) _ (h .1) in
+    record {
+      reported = r;
+      is-read = refl;
+      primary-equal = same-header _ _ .0 (h .0);
+      secondary-equal = same-sec _ _ .0 (x .0);
+      data-equal = same-octets user d .0 (x .1);
+    }
+
+-- by both headers and the data
+pub equals-creator : (s : List ℕ) (b : Bool) (t : PusTcCreator) (d : List ℕ) → (equalsCreator s b t d ≡ true) ↔ ReadAsCreator (readOf s b) (appData s b) t d
+equals-creator s b t d = (
+  says-creator (readOf s b) (appData s b) t d,
+  λ k. creator-compared (readOf s b) (appData s b) t d (k .reported) true true (k .is-read) (same-header _ _ .1 (k .primary-equal)) (same-sec _ _ .1 (k .secondary-equal))
+      ∙ same-octets (appData s b) d .1 (k .data-equal),
+)
+
+is-read : (a : Answer PusTcRecord) → (isRead a ≡ true) ↔ ((r : PusTcRecord) × (a ≡ gives r))
+is-read (refuses e) = (λ p. absurd (no-yes p), λ k. ap isRead (k .1))
+is-read (gives r) = (λ p. (r, refl), λ k. refl)
+
+-- what two readers that are equal read
+pub record ReadAlike (s : List ℕ) (b : Bool) (t : List ℕ) (c : Bool) : Type 0 where
+  pub one : (r : PusTcRecord) × (readOf s b ≡ gives r)
+  pub other : (r : PusTcRecord) × (readOf t c ≡ gives r)
+  pub octets-equal : rawData s b ≡ rawData t c
+
+-- by their raw octets
+pub equals-reader : (s : List ℕ) (b : Bool) (t : List ℕ) (c : Bool) → (equalsReader s b t c ≡ true) ↔ ReadAlike s b t c
+equals-reader s b t c = (
+  λ p.
+      let h = and-true (isRead (readOf s b)) _ p in
+      let k = and-true (isRead (readOf t c)) _ (h .1) in
+      record { one = is-read _ .0 (h .0); other = is-read _ .0 (k .0); octets-equal = same-octets _ _ .0 (k .1) },
+  λ k.
+      ap₂ (λ (x y : Bool). x && (y && sameOctets (rawData s b) (rawData t c))) (is-read (readOf s b) .1 (k .one)) (is-read (readOf t c) .1 (k .other))
+      ∙ same-octets _ _ .1 (k .octets-equal),
+)

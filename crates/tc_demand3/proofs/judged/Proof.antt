@@ -1,0 +1,24 @@
+use mathlib.Core.Path.{sym, _∙_}
+use native.Mathlib.Omega.{arith}
+use Rattle.ecss.specs.Frame.{Octets}
+use Rattle.tc_demand3.proofs.Demand3.{exactly, reports}
+use borrow.Author.Needs.{needs}
+use Rattle.tc_demand3.proofs.judged.Statement.{statement}
+use Rattle.tc_demand3.proofs.judged.Tie as tie
+
+judge-requires : tie.Need-judge-requires
+judge-requires c κs = search needs
+
+returns : tie.Need-returns
+returns c =
+    let s = c .before .before .args .octets .now in
+    let e = c .judge .ensures in
+    let o : Octets s = λ i. omega (arith, c .before .shared-slice-known .given i) in
+    let t = exactly s o in
+    record {
+      exactly = (λ a. t .0 (a .0, sym e ∙ a .1), λ b. let r = t .1 b in (r .0, e ∙ r .1));
+      reports = λ p b. e ∙ reports s p b;
+    }
+
+pub judged-spec : {M : Type 1} → statement M
+judged-spec = tie.close (tie.spec judge-requires returns)

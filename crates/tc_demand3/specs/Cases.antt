@@ -1,0 +1,70 @@
+-- The cases at the edges, P1 to P12, as one table of what the definitions answer.
+use mathlib.Core.Path.{_≡_}
+use mathlib.Core.Bool.{true, false}
+use mathlib.Core.List.{List, [], _∷_, _++_}
+use Prim.Native.Nat.{ℕ}
+use Rattle.crc_register.specs.Crc.{crcOf}
+use Rattle.space_packet.specs.Answer.{gives, refuses, refusal}
+use Rattle.ecss_write.specs.Write.{lengthField}
+use Rattle.ecss.specs.declared.PusVersion.the-variants.{PusC}
+use Rattle.tc_read.specs.Read.{readOf, checkedRead}
+use Rattle.tc_read.specs.declared.PusTcRecord.{PusTcRecord}
+use Rattle.ecss.specs.declared.Crc16.the-variants.{Some, None}
+use Rattle.space_packet.specs.declared.PacketType.the-variants.{Tc}
+use Rattle.space_packet.specs.declared.SequenceFlags.the-variants.{Unsegmented}
+use Rattle.space_packet.specs.declared.SpacePacketHeader.{SpacePacketHeader}
+use Rattle.tc_strict.specs.Verdict.{strictOf}
+
+-- a ping command's octets before the checksum, with the length field n: 19 23 C0 05 00 n 2F 11 01 00 00
+abbrev pub ping : ℕ → List ℕ
+ping n = 0x19 ∷ 0x23 ∷ 0xC0 ∷ 0x05 ∷ 0x00 ∷ n ∷ 0x2F ∷ 0x11 ∷ 0x01 ∷ 0x00 ∷ 0x00 ∷ []
+
+-- what is reported of it: APID 291, count 5, service 17, subtype 1, and no data
+abbrev pub pingHeader : ℕ → SpacePacketHeader
+pingHeader n = record {
+  version = 0;
+  «packet_id» = record { «packet_type» = Tc; «sec_header_flag» = true; apid = record { 0 = 291 } };
+  psc = record { «seq_flags» = Unsegmented; «seq_count» = record { 0 = 5 } };
+  «data_len» = n;
+}
+
+abbrev pub pingRecord : PusTcRecord
+pingRecord = record {
+  «sp_header» = pingHeader 6;
+  «sec_header» = record { «message_type_id» = record { «type_id» = 17; «subtype_id» = 1 }; «source_id» = 0; «ack_flags» = record { 0 = 15 }; version = PusC };
+  start = 11;
+  end = 11;
+  total = 13;
+  crc16 = Some 0x616D;
+}
+
+abbrev pub pingBare : PusTcRecord
+pingBare = record {
+  «sp_header» = pingHeader 4;
+  «sec_header» = record { «message_type_id» = record { «type_id» = 17; «subtype_id» = 1 }; «source_id» = 0; «ack_flags» = record { 0 = 15 }; version = PusC };
+  start = 11;
+  end = 11;
+  total = 11;
+  crc16 = None;
+}
+
+pub record Cases : Type 0 where
+  -- the checksum of no octets, of 00, of FF, and of FF FF
+  pub p1 : crcOf [] ≡ 0xFFFF
+  pub p2 : crcOf (0x00 ∷ []) ≡ 0xE1F0
+  pub p3 : crcOf (0xFF ∷ []) ≡ 0xFF00
+  pub p4 : crcOf (0xFF ∷ 0xFF ∷ []) ≡ 0x0000
+  -- a ping command is accepted, and ending in 6C it is refused with 4 and 616C
+  pub p5 : strictOf (ping 6 ++ (0x61 ∷ 0x6D ∷ [])) ≡ gives pingRecord
+  pub p6 : strictOf (ping 6 ++ (0x61 ∷ 0x6C ∷ [])) ≡ refuses (refusal 4 (0x616C ∷ []))
+  -- ten octets, and eleven with the length field 3
+  pub p7 : strictOf (0x19 ∷ 0x23 ∷ 0xC0 ∷ 0x05 ∷ 0x00 ∷ 0x06 ∷ 0x2F ∷ 0x11 ∷ 0x01 ∷ 0x00 ∷ []) ≡ refuses (refusal 2 (10 ∷ 11 ∷ []))
+  pub p8 : strictOf (ping 3) ≡ refuses (refusal 2 (10 ∷ 11 ∷ []))
+  -- eleven octets with the length field 4: accepted without a checksum, and checked it is found 9
+  pub p9 : readOf (ping 4) false ≡ gives pingBare
+  pub p9-checked : checkedRead (ping 4) ≡ refuses (refusal 2 (9 ∷ 11 ∷ []))
+  -- twelve octets with the length field 5, checked
+  pub p10 : checkedRead (ping 5 ++ (0x61 ∷ [])) ≡ refuses (refusal 2 (10 ∷ 11 ∷ []))
+  -- 65,529 octets of data have the largest length field, and 65,530 none
+  pub p11 : lengthField 11 true 65529 ≡ gives 65535
+  pub p12 : lengthField 11 true 65530 ≡ refuses (refusal 6 (65530 ∷ []))

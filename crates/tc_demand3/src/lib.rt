@@ -1,0 +1,118 @@
+// What the customer asks of the strict verdict, as theorems: specs/Rules.antt has the words, proofs/Demand3.antt the theorems.
+//
+// Theorems 1, 2, 4 and 5 are also proved here of the calls themselves: the functions below write packets, in either checksum form,
+// and have octets judged. They are there for their contracts, and nothing calls them.
+ghost use mathlib.Core.Path.{_≡_};
+ghost use mathlib.Core.Bool.{true};
+ghost use lib.ListN.{length};
+ghost use Rattle.space_packet.specs.Wrote.{Wrote};
+ghost use Rattle.ecss.specs.Kind.{Rules};
+ghost use Rattle.ecss_write.specs.Writer.{packetBy, Handed};
+ghost use Rattle.reserve.specs.Reserve.{finishIn, finished};
+ghost use Rattle.tc_header.specs.Header.{pusC};
+ghost use Rattle.tc_write.specs.Creator.{PacketWrote};
+ghost use Rattle.tc_read.specs.Read.{startC};
+ghost use Rattle.tc_demand3.specs.Rules.{madeOf, Fits, Accepts, Exact, RefusesChanged};
+use space_packet::SizeResult;
+use space_packet::SpHeader;
+use tc_header::PusTcSecondaryHeader;
+use tc_reserved::PusTcCreatorWithReservedAppData;
+use tc_reserved::ReservedResult;
+use tc_strict::Verdict;
+use tc_write::PusTcBuilder;
+use tc_write::PusTcCreator;
+use tc_write::PusTcCreatorResult;
+
+// ---- theorems 1 and 2: octets are judged
+
+fn judged(octets: &[u8]) -> Verdict
+    ensures { λ v. ⌜ Exact v (now (octets .entry)) ⌝ }
+{
+    tc_strict::judge(octets)
+}
+
+// ---- theorem 4: a packet is written, and judged
+
+fn write(creator: PusTcCreator, app_data: &[u8], buf: &mut [u8], table: bool) -> SizeResult
+    ensures { λ r. ⌜ PacketWrote creator (now («app_data» .entry)) (now (buf .entry)) r (now (buf .exit)) ⌝ }
+{
+    if table {
+        return creator.write_to_slice(app_data, buf);
+    }
+    creator.write_to_slice_crc_no_table(app_data, buf)
+}
+
+fn finish(held: PusTcCreatorWithReservedAppData, buf: &mut [u8], table: bool) -> SizeResult
+    ensures { λ r. ⌜ Wrote (finishIn startC (held .0) (length (now (buf .entry)))) (finished (held .0) (now (buf .entry))) (now (buf .entry)) r (now (buf .exit)) ⌝ }
+{
+    if table {
+        return held.finalize(buf);
+    }
+    held.finalize_checksum_no_table(buf)
+}
+
+fn written(creator: PusTcCreator, app_data: &[u8], buf: &mut [u8], table: bool) -> Verdict
+    ensures { λ v. ⌜ (creator .«has_checksum» ≡ true → Rules pusC (packetBy (creator .«sp_header») (creator .«sec_header») (now («app_data» .entry)))
+        → Fits (now («app_data» .entry)) (now (buf .entry))
+        → Accepts v (packetBy (creator .«sp_header») (creator .«sec_header») (now («app_data» .entry)))) ⌝ }
+{
+    write(creator, app_data, buf, table);
+    tc_strict::judge(buf)
+}
+
+fn built(builder: PusTcBuilder, app_data: &[u8], buf: &mut [u8], table: bool) -> Verdict
+    ensures { λ v. ⌜ (builder .0 .«has_checksum» ≡ true → Handed pusC (packetBy (builder .0 .«sp_header») (builder .0 .«sec_header») (now («app_data» .entry)))
+        → Fits (now («app_data» .entry)) (now (buf .entry))
+        → Accepts v (madeOf (packetBy (builder .0 .«sp_header») (builder .0 .«sec_header») (now («app_data» .entry))))) ⌝ }
+{
+    let made = builder.build(app_data);
+    match made {
+        PusTcCreatorResult::Err(e) => Verdict::Refused(e),
+        PusTcCreatorResult::Ok(creator) => written(creator, app_data, buf, table),
+    }
+}
+
+fn reserved(
+    sp_header: SpHeader,
+    sec_header: PusTcSecondaryHeader,
+    app_data: &[u8],
+    buf: &mut [u8],
+    table: bool,
+) -> Verdict
+    ensures { λ v. ⌜ (Handed pusC (packetBy «sp_header» «sec_header» (now («app_data» .entry))) → Fits (now («app_data» .entry)) (now (buf .entry))
+        → Accepts v (madeOf (packetBy «sp_header» «sec_header» (now («app_data» .entry))))) ⌝ }
+{
+    let made = PusTcCreatorWithReservedAppData::new(
+        buf,
+        sp_header,
+        sec_header,
+        app_data.len(),
+        true,
+    );
+    match made {
+        ReservedResult::Err(e) => Verdict::Refused(e),
+        ReservedResult::Ok(held) => {
+            held.fill_app_data(app_data, buf);
+            finish(held, buf, table);
+            tc_strict::judge(buf)
+        }
+    }
+}
+
+// ---- theorem 5: octets are judged, and so are the same with bits of them changed
+
+struct Verdicts {
+    sent: Verdict,
+    received: Verdict,
+}
+
+fn changed(sent: &[u8], received: &[u8]) -> Verdicts
+    ensures { λ r. ⌜ RefusesChanged (r .sent) (now (sent .entry)) (r .received) (now (received .entry)) ⌝ }
+{
+    let first = tc_strict::judge(sent);
+    let second = tc_strict::judge(received);
+    Verdicts {
+        sent: first,
+        received: second,
+    }
+}

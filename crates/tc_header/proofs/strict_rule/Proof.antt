@@ -1,0 +1,31 @@
+-- `tc_header::strict_rule` meets its contract: PUS C asks nothing besides what every kind shares.
+use Prim.Native.Nat.{ℕ}
+use mathlib.Core.Path.{sym, ap₂, _∙_}
+use mathlib.Core.List.{[]}
+use Rattle.space_packet.specs.Answer.{refusal}
+use Rattle.space_packet.specs.declared.PacketType.the-variants.{Tc}
+use Rattle.space_packet.proofs.Answers.{then-same}
+use Rattle.ecss.specs.Kind.{pusRule, strictRule}
+use borrow.Author.Needs.{needs}
+use Rattle.tc_header.proofs.strict_rule.Statement.{statement}
+use Rattle.tc_header.proofs.strict_rule.Tie as tie
+
+raw-value-requires : tie.Need-raw-value-requires
+raw-value-requires c κs = search needs
+
+first-octet-requires : tie.Need-first-octet-requires
+first-octet-requires c κs = search needs
+
+pus-rule-requires : tie.Need-pus-rule-requires
+pus-rule-requires c κs = search needs
+
+returns : tie.Need-returns
+unfolding strictRule
+returns c =
+    let h = c .before .before .before .before .args .h in
+    c .pus-rule .ensures ∙ ap₂ (λ (v o : ℕ). pusRule Tc (refusal 10 []) v h o) (c .before .before .raw-value .ensures) (c .before .first-octet .ensures)
+    ∙ sym (then-same _)
+
+pub strict-rule-spec : {M : Type 1} → statement M
+strict-rule-spec =
+    tie.close (tie.spec raw-value-requires first-octet-requires pus-rule-requires returns)

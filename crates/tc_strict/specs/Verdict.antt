@@ -1,0 +1,20 @@
+-- The strict verdict on octets: accepted with what the reader reports, or refused.
+use Prim.Native.Nat.{ℕ}
+use mathlib.Core.Bool.{true}
+use mathlib.Core.List.{List}
+use Rattle.space_packet.specs.Answer.{Answer, gives, refuses, _then_, numbersOf}
+use Rattle.ecss.specs.Frame.{statedOf}
+use Rattle.ecss.specs.Kind.{judge}
+use Rattle.tc_header.specs.Header.{pusC}
+use Rattle.tc_read.specs.Read.{recordOf}
+use Rattle.tc_read.specs.declared.PusTcRecord.{PusTcRecord}
+use Rattle.tc_strict.specs.declared.Verdict.{Verdict}
+use Rattle.tc_strict.specs.declared.Verdict.the-variants.{Accepted, Refused}
+
+-- all reader checks with checksum, then packet version number, type, secondary header flag, PUS version
+unfoldable pub strictOf : List ℕ → Answer PusTcRecord
+strictOf s = judge pusC s then λ _. gives (recordOf s true (statedOf s))
+
+abbrev pub verdictAnswer : Verdict → Answer PusTcRecord
+verdictAnswer (Accepted r) = gives r
+verdictAnswer (Refused e) = refuses (numbersOf e)

@@ -1,0 +1,4 @@
+pub mod Made
+pub mod Agree
+pub mod Same
+pub mod Determined

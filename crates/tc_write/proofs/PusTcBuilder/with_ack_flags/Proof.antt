@@ -1,0 +1,19 @@
+-- `PusTcBuilder::with_ack_flags` meets its contract: the creator's own edit, in the builder that holds it.
+use mathlib.Core.Path.{_∙_}
+use Rattle.tc_write.specs.Builder.{builderOf}
+use Rattle.tc_write.proofs.Made.{edit-in}
+use borrow.Author.Needs.{needs}
+use Rattle.tc_write.proofs.PusTcBuilder.with_ack_flags.Statement.{statement}
+use Rattle.tc_write.proofs.PusTcBuilder.with_ack_flags.Tie as tie
+
+set-ack-flags-requires : tie.Need-set-ack-flags-requires
+set-ack-flags-requires c κs = search needs
+
+builder-set-requires : tie.Need-builder-set-requires
+builder-set-requires c κs = search needs
+
+returns : tie.Need-returns
+returns c = c .builder-set .ensures ∙ edit-in builderOf _ _ _ _ (c .before .set-ack-flags .ensures)
+
+pub with-ack-flags-spec : {M : Type 1} → statement M
+with-ack-flags-spec = tie.close (tie.spec set-ack-flags-requires builder-set-requires returns)

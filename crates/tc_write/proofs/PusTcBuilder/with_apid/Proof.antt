@@ -1,0 +1,19 @@
+-- `PusTcBuilder::with_apid` meets its contract: the creator's own edit, in the builder that holds it.
+use mathlib.Core.Path.{_∙_}
+use Rattle.tc_write.specs.Builder.{builderOf}
+use Rattle.tc_write.proofs.Made.{edit-in}
+use borrow.Author.Needs.{needs}
+use Rattle.tc_write.proofs.PusTcBuilder.with_apid.Statement.{statement}
+use Rattle.tc_write.proofs.PusTcBuilder.with_apid.Tie as tie
+
+set-apid-requires : tie.Need-set-apid-requires
+set-apid-requires c κs = search needs
+
+builder-set-requires : tie.Need-builder-set-requires
+builder-set-requires c κs = search needs
+
+returns : tie.Need-returns
+returns c = c .builder-set .ensures ∙ edit-in builderOf _ _ _ _ (c .before .set-apid .ensures)
+
+pub with-apid-spec : {M : Type 1} → statement M
+with-apid-spec = tie.close (tie.spec set-apid-requires builder-set-requires returns)

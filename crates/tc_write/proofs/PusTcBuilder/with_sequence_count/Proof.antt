@@ -1,0 +1,19 @@
+-- `PusTcBuilder::with_sequence_count` meets its contract: the creator's own edit, in the builder that holds it.
+use mathlib.Core.Path.{_∙_}
+use Rattle.tc_write.specs.Builder.{builderOf}
+use Rattle.tc_write.proofs.Made.{edit-in}
+use borrow.Author.Needs.{needs}
+use Rattle.tc_write.proofs.PusTcBuilder.with_sequence_count.Statement.{statement}
+use Rattle.tc_write.proofs.PusTcBuilder.with_sequence_count.Tie as tie
+
+set-seq-count-requires : tie.Need-set-seq-count-requires
+set-seq-count-requires c κs = search needs
+
+builder-set-requires : tie.Need-builder-set-requires
+builder-set-requires c κs = search needs
+
+returns : tie.Need-returns
+returns c = c .builder-set .ensures ∙ edit-in builderOf _ _ _ _ (c .before .set-seq-count .ensures)
+
+pub with-sequence-count-spec : {M : Type 1} → statement M
+with-sequence-count-spec = tie.close (tie.spec set-seq-count-requires builder-set-requires returns)

@@ -1,0 +1,38 @@
+use Rattle.tc_write.proofs.Made.{and-go, and-stop}
+use Rattle.tc_write.specs.Creator.{sameCreator}
+use Rattle.space_packet.proofs.Numbers.{beq-flag}
+use borrow.Author.Tests.{not-false, not-true}
+use mathlib.Core.Path.{_∙_, sym}
+use borrow.Author.Needs.{needs}
+use Rattle.tc_write.proofs.PusTcCreator.eq.Statement.{statement}
+use Rattle.tc_write.proofs.PusTcCreator.eq.Tie as tie
+
+eq-requires : tie.Need-eq-requires
+eq-requires c κs = search needs
+
+returns : tie.Need-returns
+unfolding sameCreator
+returns c = sym (and-stop _ _ (sym (c .before .eq .ensures) ∙ not-true _ (c .if1 .taken)))
+
+eq-requires-2 : tie.Need-eq-requires-2
+eq-requires-2 c κs = search needs
+
+returns-2 : tie.Need-returns-2
+unfolding sameCreator
+returns-2 c = sym (and-go _ _ (sym (c .before .before .before .eq .ensures) ∙ not-false _ (c .before .before .if1 .left)) ∙ and-stop _ _ (sym (c .before .eq2 .ensures) ∙ not-true _ (c .if2 .taken)))
+
+same-octets-requires : tie.Need-same-octets-requires
+same-octets-requires c κs = search needs
+
+returns-3 : tie.Need-returns-3
+unfolding sameCreator
+returns-3 c = sym (and-go _ _ (sym (c .before .before .before .before .before .eq .ensures) ∙ not-false _ (c .before .before .before .before .if1 .left)) ∙ and-go _ _ (sym (c .before .before .before .eq2 .ensures) ∙ not-false _ (c .before .before .if2 .left)) ∙ and-stop _ _ (sym (c .before .same-octets .ensures) ∙ not-true _ (c .if3 .taken)))
+
+returns-4 : tie.Need-returns-4
+unfolding sameCreator
+returns-4 c = beq-flag (c .before .before .before .before .before .before .before .before .before .before .before .before .args .self .«has_checksum») (c .before .before .before .before .before .before .before .before .before .before .before .before .args .other .«has_checksum») ∙ sym (and-go _ _ (sym (c .before .before .before .before .before .before .before .eq .ensures) ∙ not-false _ (c .before .before .before .before .before .before .if1 .left)) ∙ and-go _ _ (sym (c .before .before .before .before .before .eq2 .ensures) ∙ not-false _ (c .before .before .before .before .if2 .left)) ∙ and-go _ _ (sym (c .before .before .before .same-octets .ensures) ∙ not-false _ (c .before .before .if3 .left)))
+
+pub eq-spec : {M : Type 1} → statement M
+eq-spec =
+    tie.close
+    (tie.spec eq-requires returns eq-requires-2 returns-2 same-octets-requires returns-3 returns-4)
