@@ -1,11 +1,11 @@
 -- Folding: what stands at the front of a row is struck out, and added again at three places behind.
 use mathlib.Core.Path.{_≡_, refl, sym, ap, ap₂, _∙_}
 use mathlib.Core.Bool.{false}
-use mathlib.Core.List.{List, [], _∷_, _++_, append-assoc}
+use mathlib.Core.List.{List, _++_, append-assoc}
 use Prim.Native.Nat.{ℕ, zero, suc, _+_, _*_, _/_, _%_, _^_, _<_}
 use native.Mathlib.Omega.{arith}
 use lib.Dec.{lit<}
-use lib.ListN.{length, replicate, length-append, length-replicate}
+use lib.ListN.{length, replicate, length-append}
 use Rattle.crc_register.specs.Crc.{_⊕_, bit, shiftIn, run, octetBits, bitsOf, crcFrom}
 use Rattle.crc_register.specs.Added.{addOctets}
 use Rattle.crc_fold.specs.Word.{octs, lows}

@@ -1,6 +1,6 @@
 -- Words, by their octets: sums, parts, and the register that a word meets.
 use mathlib.Core.Path.{_≡_, refl, sym, ap, ap₂, _∙_}
-use mathlib.Core.List.{List, [], _∷_, _++_, append-assoc, reverse}
+use mathlib.Core.List.{List, [], _∷_, _++_, reverse}
 use Prim.Native.Nat.{ℕ, zero, suc, _+_, _*_, _/_, _%_, _^_, _≤_, _<_}
 use native.Mathlib.Nat.{add-suc, add-zero, suc-add, zero-add, zero-mul, div-one}
 use native.Mathlib.Omega.{arith}
@@ -12,7 +12,6 @@ use Rattle.crc_register.specs.Added.{addOctets}
 use Rattle.crc_fold.specs.Word.{octs, lows}
 use Rattle.crc_register.proofs.Below.{same-below}
 use Rattle.crc_register.proofs.Xor.{⊕-shr, ⊕-mod}
-use Rattle.crc_register.proofs.Linear.{crcFrom-⊕}
 use Rattle.crc_fold.proofs.Basis.{Additive, id-add, shr-add, shl-add, mod-add, sum-add, then-add, by-bits}
 use Rattle.crc_fold.proofs.Rows.{add-++, zeros-sum, ahead, from-none, in-front}
 

@@ -5,8 +5,8 @@ use mathlib.Core.Bool.{Bool, true, false}
 use mathlib.Core.List.{List, [], _∷_, _++_, append-assoc, append-nil}
 use native.Mathlib.Omega.{arith}
 use lib.Dec.{lit<}
-use lib.ListN.{length, getD, take, drop, length-append, length-drop}
-use lib.Seq.{take-at, drop-at, take-add, drop-drop, drop-cons, getD-drop, getD-append-add, length-take-le}
+use lib.ListN.{length, getD, take, drop, length-append}
+use lib.Seq.{take-at, drop-at, take-add, drop-drop, drop-cons, getD-drop, getD-append-add}
 use Rattle.space_packet.specs.Bits.{be16}
 use Rattle.space_packet.specs.Header.{headerOctets, readHeader, packetLen}
 use Rattle.space_packet.proofs.RoundTrip.{read-written, written-read, stated-total, length-headerOctets}

@@ -4,7 +4,7 @@ use mathlib.Core.Path.{_≡_, refl, sym, ap, ap₂, _∙_}
 use mathlib.Core.Bool.{Bool}
 use mathlib.Core.List.{List, [], _++_, append-assoc, append-nil}
 use lib.ListN.{length}
-use Rattle.space_packet.specs.Answer.{Numbers, Answer, Passed, gives, refuses, _then_, setIf, checkAnswer, sizeAnswer}
+use Rattle.space_packet.specs.Answer.{Numbers, Answer, Passed, gives, refuses, _then_, setIf, checkAnswer}
 use Rattle.space_packet.specs.Header.{headerOctets, headerCheck, leftBy}
 use Rattle.space_packet.specs.Wrote.{Wrote}
 use Rattle.space_packet.specs.declared.SpacePacketHeader.{SpacePacketHeader}

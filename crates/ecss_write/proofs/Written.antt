@@ -7,12 +7,10 @@ use native.Mathlib.Omega.{arith}
 use lib.ListN.{length, take, drop, length-append, length-take, length-drop, drop-of-length-le}
 use borrow.Author.Tests.{ltb-false, le-ltb}
 use borrow.Rule.Slice.PartMut.{putMid}
-use Rattle.crc_register.specs.Crc.{crcOf}
 use Rattle.crc.specs.Digest.{digestOf, taken, checksumHeld}
 use Rattle.crc.specs.declared.Digest.{Digest}
 use Rattle.crc.proofs.Parts.{digest-parts}
-use Rattle.space_packet.specs.Bits.{pick}
-use Rattle.space_packet.specs.Answer.{Numbers, Answer, Passed, Kept, gives, refuses, _then_, sizeAnswer}
+use Rattle.space_packet.specs.Answer.{Numbers, Answer, Passed, gives, refuses, _then_, sizeAnswer}
 use Rattle.space_packet.specs.Header.{leftBy, headerCheck, headerOctets, headerWrite}
 use Rattle.space_packet.specs.Wrote.{Wrote}
 use Rattle.space_packet.specs.declared.SpacePacketHeader.{SpacePacketHeader}

@@ -2,7 +2,7 @@
 use Prim.Native.Nat.{ℕ, _+_, _-_}
 use mathlib.Core.Bool.{not}
 use mathlib.Core.List.{List, [], _++_}
-use lib.ListN.{length, take, drop}
+use lib.ListN.{take, drop}
 use lib.Dec.{ltb, eqb}
 use Rattle.space_packet.specs.Answer.{Answer, Passed, refusal, gives, refuses, refuseIf, _then_, numbersOf}
 use Rattle.ecss.specs.Frame.{trailer, closed}

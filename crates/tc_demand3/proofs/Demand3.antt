@@ -15,7 +15,7 @@ use Rattle.space_packet.specs.declared.SizeResult.the-variants as Z
 use Rattle.space_packet.proofs.Answers.{gives-inj, gives-then, then-gives, refuses-then, left-written}
 use Rattle.space_packet.proofs.Determined.{writes}
 use Rattle.ecss.specs.Frame.{Octets, statedOf, closed}
-use Rattle.ecss.specs.Kind.{Packet, Rules, BeginsWith, judge, packetOf}
+use Rattle.ecss.specs.Kind.{Rules, BeginsWith, judge, packetOf}
 use Rattle.ecss.specs.Version.{defaultConfig}
 use Rattle.ecss.specs.declared.PusVersion.the-variants.{PusC}
 use Rattle.ecss.proofs.Pieces.{data-is}

@@ -1,3 +1,4 @@
+-- `bench_judge::port_judge` meets its contract: the strict verdict, by its arm: 0 where it refuses, else the record's total.
 use mathlib.Core.Path.{sym, ap, _∙_}
 use Rattle.tc_strict.specs.Verdict.{verdictAnswer}
 use Rattle.bench_judge.specs.Numbers.{totalNumber}

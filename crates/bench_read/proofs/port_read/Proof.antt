@@ -1,3 +1,4 @@
+-- `bench_read::port_read` meets its contract: the checked read, by its arm: 0 where it refuses, else the record's sum.
 use mathlib.Core.Path.{sym, ap, _∙_}
 use Rattle.tc_read.specs.Read.{recordAnswer}
 use Rattle.bench_read.specs.Numbers.{readNumber}

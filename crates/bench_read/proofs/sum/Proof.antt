@@ -1,3 +1,4 @@
+-- `bench_read::sum` meets its contract: the nine numbers, six by the contracts of their calls, in a sum too small to wrap.
 use native.Mathlib.Omega.{arith}
 use Rattle.bench_read.specs.Numbers.{sumOf}
 use borrow.Author.Needs.{needs}

@@ -1,3 +1,4 @@
+-- `bench_split::port_step` meets its contract: the splitter's step, by its arm, and a packet by the arm of its verdict.
 use mathlib.Core.Path.{sym, ap, _∙_}
 use Rattle.tc_strict.specs.Split.{stepAnswer}
 use Rattle.tc_strict.specs.Verdict.{verdictAnswer}

@@ -1,3 +1,4 @@
+-- `bench_write::made` meets its contract: the creator's answer, with the results of the four calls put in.
 use borrow.Author.Needs.{needs}
 use Rattle.bench_write.proofs.made.Statement.{statement}
 use Rattle.bench_write.proofs.made.Tie as tie

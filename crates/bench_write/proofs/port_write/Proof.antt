@@ -1,3 +1,4 @@
+-- `bench_write::port_write` meets its contract: refused by `made`, or what the write of the command answers and leaves.
 use mathlib.Core.Path.{sym, ap, _∙_}
 use Rattle.space_packet.specs.Answer.{sizeAnswer}
 use Rattle.space_packet.specs.declared.SizeResult.{SizeResult}

@@ -1,4 +1,4 @@
--- safe and ends
+-- `captures::main` is safe and ends: i rises to the count, and the measure is count - i.
 use Prim.Native.Nat.{_-_}
 use native.Mathlib.Omega.{arith}
 use Rattle.captures.proofs.main.Statement.{statement}

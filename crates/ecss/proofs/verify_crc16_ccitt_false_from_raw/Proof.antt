@@ -1,11 +1,10 @@
+-- `ecss::verify_crc16_ccitt_false_from_raw` meets its contract: the checksum with no table, compared with 0.
 use mathlib.Core.Path.{ap}
 use lib.Dec.{eqb}
 use Prim.Native.Nat.{ℕ}
 use borrow.Author.Needs.{needs}
 use Rattle.ecss.proofs.verify_crc16_ccitt_false_from_raw.Statement.{statement}
 use Rattle.ecss.proofs.verify_crc16_ccitt_false_from_raw.Tie as tie
-use Rattle.ecss.proofs.verify_crc16_ccitt_false_from_raw.Reads as reads
-use Rattle.ecss.proofs.verify_crc16_ccitt_false_from_raw.Lts as lts
 
 crc-ccitt-false-no-table-requires : tie.Need-crc-ccitt-false-no-table-requires
 crc-ccitt-false-no-table-requires c κs = search needs

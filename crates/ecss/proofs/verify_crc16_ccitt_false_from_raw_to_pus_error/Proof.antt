@@ -1,3 +1,4 @@
+-- `ecss::verify_crc16_ccitt_false_from_raw_to_pus_error` meets its contract: its test is the definition's, on the checksum.
 use mathlib.Core.Path.{sym, ap, _∙_}
 use borrow.Author.Tests.{eq-eqb, ne-eqb}
 use Rattle.space_packet.proofs.Answers.{refuse-yes, refuse-no}
@@ -5,8 +6,6 @@ use mathlib.Core.Bool.{not}
 use borrow.Author.Needs.{needs}
 use Rattle.ecss.proofs.verify_crc16_ccitt_false_from_raw_to_pus_error.Statement.{statement}
 use Rattle.ecss.proofs.verify_crc16_ccitt_false_from_raw_to_pus_error.Tie as tie
-use Rattle.ecss.proofs.verify_crc16_ccitt_false_from_raw_to_pus_error.Reads as reads
-use Rattle.ecss.proofs.verify_crc16_ccitt_false_from_raw_to_pus_error.Lts as lts
 
 crc-ccitt-false-no-table-requires : tie.Need-crc-ccitt-false-no-table-requires
 crc-ccitt-false-no-table-requires c κs = search needs

@@ -1,3 +1,4 @@
+-- `ecss_write::copy` meets its contract: the first i octets are the data's, the rest are as they were, and data.len() - i falls.
 use mathlib.Core.Path.{_≡_, _∙_}
 use native.Mathlib.Omega.{arith}
 use borrow.Author.Needs.{needs}

@@ -1,3 +1,4 @@
+-- `ecss_write::data_len_field` meets its contract: the total's refusal, 6 above 65,542, or the total less 7, which is 0 below 7.
 use mathlib.Core.Path.{refl, sym, ap, _∙_}
 use native.Mathlib.Omega.{arith}
 use borrow.Author.Tests.{lt-ltb}

@@ -1,3 +1,4 @@
+-- `ecss_write::fill` meets its contract: refused, it leaves all as it was; given room, it has copied the octets it answers.
 use mathlib.Core.Path.{sym, ap, _∙_}
 use mathlib.Core.List.{_++_}
 use lib.ListN.{length, drop}

@@ -1,3 +1,4 @@
+-- `ecss_write::in_buffer` meets its contract: its test is the refusal's own, and either way the answer is what it says.
 use mathlib.Core.Path.{sym}
 use borrow.Author.Tests.{lt-ltb, le-ltb}
 use Rattle.space_packet.proofs.Answers.{refuse-yes, refuse-no}

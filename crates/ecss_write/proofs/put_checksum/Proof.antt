@@ -1,3 +1,4 @@
+-- `ecss_write::put_checksum` meets its contract: two writes in a row leave the two octets of the checksum behind the first `end`.
 use native.Mathlib.Omega.{arith}
 use native.Mathlib.Numerals.{add-one}
 use lib.Seq.{sets-eq}

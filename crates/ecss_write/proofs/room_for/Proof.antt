@@ -1,3 +1,4 @@
+-- `ecss_write::room_for` meets its contract: the refusal of the total, or what the buffer answers for it.
 use mathlib.Core.Path.{sym, ap, _∙_}
 use Rattle.space_packet.proofs.Answers.{gives-then, refuses-then}
 use Rattle.space_packet.specs.Answer.{sizeAnswer}

@@ -1,3 +1,4 @@
+-- `ecss_write::seal` meets its contract: a total that has room is 2 more than the headers and the data, for the checksum.
 use mathlib.Core.Path.{sym, ap, _∙_}
 use native.Mathlib.Omega.{arith}
 use Rattle.space_packet.proofs.Answers.{left-refused, left-written}

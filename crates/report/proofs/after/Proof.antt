@@ -1,4 +1,4 @@
--- `report::after` meets its contract.
+-- `report::after` meets its contract: where the packet or the tail goes on, and `last` at the end.
 use mathlib.Core.Path.{sym, ap, _∙_}
 use Rattle.tc_strict.specs.declared.split.Step.{Step}
 use Rattle.report.specs.Report.{behind}

@@ -1,4 +1,4 @@
--- `report::read_once` meets its contract.
+-- `report::read_once` meets its contract: a read fails or moves no more octets than the space has, and `told` says which.
 use mir.Syntax.{w64}
 use mir.ValLaws.{toZ-ofZ}
 use Rattle.report.proofs.Readings.{within-is}

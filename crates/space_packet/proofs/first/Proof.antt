@@ -1,3 +1,4 @@
+-- `space_packet::first` meets its contract: a refusal ends it, and a pass goes on to the second check.
 use mathlib.Core.Path.{sym, ap, _∙_}
 use Rattle.space_packet.specs.Answer.{checkAnswer}
 use Rattle.space_packet.proofs.Answers.{gives-then, refuses-then}

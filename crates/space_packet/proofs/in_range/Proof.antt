@@ -1,3 +1,4 @@
+-- `space_packet::in_range` meets its contract: its one test is the definition's.
 use borrow.Author.Tests.{lt-ltb, le-ltb}
 use Rattle.space_packet.proofs.Answers.{refuse-yes, refuse-no}
 use mathlib.Core.Path.{sym}

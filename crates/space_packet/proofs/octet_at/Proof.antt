@@ -1,3 +1,4 @@
+-- `space_packet::octet_at` meets its contract: past the end the default is 0, and else the octet is there to be read.
 use native.Mathlib.Omega.{arith}
 use mathlib.Core.Path.{sym}
 use lib.ListN.{List·getD-eq-default}

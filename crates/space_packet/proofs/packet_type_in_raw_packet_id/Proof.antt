@@ -1,3 +1,4 @@
+-- `space_packet::packet_type_in_raw_packet_id` meets its contract: the type of the bit above the lowest twelve.
 use Rattle.space_packet.specs.Fields.{idOf}
 use borrow.Author.Needs.{needs}
 use Rattle.space_packet.proofs.packet_type_in_raw_packet_id.Statement.{statement}

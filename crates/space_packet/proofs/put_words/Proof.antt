@@ -1,3 +1,4 @@
+-- `space_packet::put_words` meets its contract: six octets set one after the other are the three words and what stood behind.
 use native.Mathlib.Omega.{arith}
 use mathlib.Core.List.{_++_}
 use lib.ListN.{length-set}

@@ -1,3 +1,4 @@
+-- `space_packet::word_at` meets its contract: past the end both octets are 0, and else it is the sum of the two.
 use Prim.Native.Nat.{_+_}
 use native.Mathlib.Omega.{arith}
 use lib.ListN.{List·getD-eq-default}

@@ -1,3 +1,4 @@
+-- `tc_compare::eq_creator` meets its contract: false where the read is refused or a header differs, then the data decide.
 use Rattle.tc_compare.proofs.Compared.{creator-compared}
 use mathlib.Core.Path.{refl, sym, ap, _∙_}
 use borrow.Author.Tests.{not-true, not-false}

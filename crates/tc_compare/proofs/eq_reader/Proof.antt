@@ -1,3 +1,4 @@
+-- `tc_compare::eq_reader` meets its contract: false where either read is refused, and then the raw octets decide.
 use mathlib.Core.Path.{sym, _∙_}
 use borrow.Author.Tests.{not-true, not-false}
 use borrow.Author.Needs.{needs}

@@ -1,3 +1,4 @@
+-- `tc_compare::is_read` meets its contract: false for a refusal, and true for a record.
 use mathlib.Core.Path.{sym, ap, _∙_}
 use Rattle.tc_read.specs.Read.{recordAnswer}
 use Rattle.tc_compare.specs.Compare.{isRead}

@@ -1,3 +1,4 @@
+-- `tc_demand3::built` meets its contract: what may be handed in is not refused, and its creator is under the rules of `written`.
 use mathlib.Core.Path.{_≡_, sym, ap, subst, _∙_}
 use mathlib.Core.Bool.{Bool, true}
 use lib.ListN.{length}

@@ -1,3 +1,4 @@
+-- `tc_demand3::changed` meets its contract: both verdicts are the strict one, of which theorem 5 speaks.
 use mathlib.Core.Path.{sym, _∙_}
 use Rattle.tc_demand3.proofs.Demand3.{changed-refused}
 use borrow.Author.Needs.{needs}

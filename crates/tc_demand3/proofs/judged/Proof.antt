@@ -1,3 +1,4 @@
+-- `tc_demand3::judged` meets its contract: the verdict is the strict one, of which theorems 1 and 2 speak.
 use mathlib.Core.Path.{sym, _∙_}
 use native.Mathlib.Omega.{arith}
 use Rattle.ecss.specs.Frame.{Octets}

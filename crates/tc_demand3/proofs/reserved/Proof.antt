@@ -1,3 +1,4 @@
+-- `tc_demand3::reserved` meets its contract: what may be handed in is reserved, and theorem 4 accepts what the three calls leave.
 use Prim.Native.Nat.{ℕ}
 use mathlib.Core.Path.{_≡_, sym, ap, subst, _∙_}
 use mathlib.Core.Bool.{true}

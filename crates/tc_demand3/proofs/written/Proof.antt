@@ -1,3 +1,4 @@
+-- `tc_demand3::written` meets its contract: theorem 4 accepts what the write leaves.
 use mathlib.Core.Path.{_∙_}
 use native.Mathlib.Omega.{arith}
 use Rattle.tc_demand3.proofs.Demand3.{written-accepted}

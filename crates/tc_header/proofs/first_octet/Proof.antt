@@ -1,4 +1,4 @@
--- `tc_header::first_octet` meets its contract.
+-- `tc_header::first_octet` meets its contract: an empty slice has the default there, and any other its octet.
 use mathlib.Core.Path.{sym}
 use native.Mathlib.Omega.{arith}
 use lib.ListN.{List·getD-eq-default}

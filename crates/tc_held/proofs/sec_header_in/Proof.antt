@@ -1,3 +1,4 @@
+-- `sec_header_in` meets its contract: the header of the record that was read, or the default where the read is refused.
 use mathlib.Core.Path.{sym, ap, _∙_}
 use borrow.Author.Needs.{needs}
 use Rattle.tc_read.specs.Read.{recordAnswer}

@@ -1,3 +1,4 @@
+-- `tc_read::crc_taken` meets its contract: the word at total - 2, or none.
 use borrow.Author.Needs.{needs}
 use Rattle.tc_read.proofs.crc_taken.Statement.{statement}
 use Rattle.tc_read.proofs.crc_taken.Tie as tie

@@ -1,6 +1,5 @@
 -- `tc_strict::judge` meets its contract: the reader's answer, then the strict checks on what it reported.
 use mathlib.Core.Path.{sym, ap, _∙_}
-use native.Mathlib.Omega.{arith}
 use Rattle.space_packet.specs.Answer.{checkAnswer}
 use Rattle.space_packet.proofs.Answers.{gives-then, refuses-then}
 use Rattle.tc_read.specs.Read.{recordAnswer}

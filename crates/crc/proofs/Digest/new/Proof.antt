@@ -1,4 +1,4 @@
--- `crc::Digest::new` meets its contract.
+-- `crc::Digest::new` meets its contract: no octets leave the register as it began.
 use Rattle.crc.proofs.Parts.{digest-none}
 use Rattle.crc.proofs.Digest.new.Statement.{statement}
 use Rattle.crc.proofs.Digest.new.Tie as tie

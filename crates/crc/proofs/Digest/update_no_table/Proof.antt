@@ -1,4 +1,4 @@
--- `crc::Digest::update_no_table` meets its contract.
+-- `crc::Digest::update_no_table` meets its contract: the register after the octets, with no table, in a digest.
 use mathlib.Core.Path.{ap}
 use borrow.Author.Needs.{needs}
 use Rattle.crc.proofs.Parts.{holding}

@@ -1,4 +1,4 @@
--- `crc_fold::folded::down` meets its contract.
+-- `crc_fold::folded::down` meets its contract: the four rows, turned, are taken in one after the other.
 use mathlib.Core.Path.{ap, _∙_}
 use borrow.Author.Needs.{needs}
 use Rattle.crc_register.specs.Crc.{crcFrom}

@@ -1,4 +1,4 @@
--- `crc_fold::folded::first` meets its contract.
+-- `crc_fold::folded::first` meets its contract: a register stands for two octets, and these are added to the first word.
 use mathlib.Core.Path.{refl, sym, ap, _∙_}
 use native.Mathlib.Omega.{arith}
 use borrow.Author.Needs.{needs}

@@ -1,6 +1,5 @@
--- `crc_fold::folded::fold` meets its contract.
+-- `crc_fold::folded::fold` meets its contract: what is added is a multiple of G^16, which leaves an empty register.
 use native.Mathlib.Omega.{arith}
-use borrow.Author.Needs.{needs}
 use Rattle.crc_register.specs.Crc.{_⊕_}
 use Rattle.crc_fold.specs.Folded.{octs4}
 use Rattle.crc_fold.proofs.Fold.{fold-words}

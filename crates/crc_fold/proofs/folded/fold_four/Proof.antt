@@ -1,4 +1,4 @@
--- `crc_fold::folded::fold_four` meets its contract.
+-- `crc_fold::folded::fold_four` meets its contract: the four words are folded in one after the other.
 use borrow.Author.Needs.{needs}
 use Rattle.crc_register.specs.Crc.{crcFrom}
 use Rattle.crc_fold.specs.Word.{octs}

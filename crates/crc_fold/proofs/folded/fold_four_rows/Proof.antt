@@ -1,4 +1,4 @@
--- `crc_fold::folded::fold_four_rows` meets its contract.
+-- `crc_fold::folded::fold_four_rows` meets its contract: 64 octets from i on, and 64 more.
 use borrow.Author.Needs.{needs}
 use Rattle.crc_register.specs.Crc.{crcFrom}
 use Rattle.crc_fold.specs.Folded.{lows16}

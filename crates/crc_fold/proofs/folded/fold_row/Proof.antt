@@ -1,4 +1,4 @@
--- `crc_fold::folded::fold_row` meets its contract.
+-- `crc_fold::folded::fold_row` meets its contract: what is added is a multiple of G^64, which leaves an empty register.
 use borrow.Author.Needs.{needs}
 use Rattle.crc_fold.specs.Folded.{lows16}
 use Rattle.crc_fold.proofs.Fold.{fold-rows}

@@ -1,4 +1,4 @@
--- `crc_fold::folded::fold_two_rows` meets its contract.
+-- `crc_fold::folded::fold_two_rows` meets its contract: 32 octets from i on, and 32 more.
 use mathlib.Core.Path.{ap, _∙_}
 use borrow.Author.Needs.{needs}
 use Rattle.crc_register.specs.Crc.{crcFrom}

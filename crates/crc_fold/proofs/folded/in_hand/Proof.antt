@@ -1,4 +1,4 @@
--- `crc_fold::folded::in_hand` meets its contract.
+-- `crc_fold::folded::in_hand` meets its contract: below 256 octets the first 32 are taken in, else it is `by_sixteen`.
 use mathlib.Core.Path.{ap, _∙_}
 use native.Mathlib.Omega.{arith}
 use borrow.Author.Needs.{needs}

@@ -1,4 +1,4 @@
--- `crc_fold::folded::low_four_at` meets its contract.
+-- `crc_fold::folded::low_four_at` meets its contract: 32 octets are four times eight, and each word is read by `low_at`.
 use mathlib.Core.Path.{sym, _∙_}
 use borrow.Author.Needs.{needs}
 use Rattle.crc_fold.specs.Folded.{lows4}

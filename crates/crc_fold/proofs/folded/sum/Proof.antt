@@ -1,5 +1,4 @@
--- `crc_fold::folded::sum` meets its contract.
-use borrow.Author.Needs.{needs}
+-- `crc_fold::folded::sum` meets its contract: a sum of words is the sum of their octets, for each of the four.
 use Rattle.crc_register.specs.Crc.{_⊕_}
 use Rattle.crc_fold.specs.Folded.{lows4}
 use Rattle.crc_fold.proofs.Fold.{sum-words}

@@ -1,4 +1,4 @@
--- `crc_fold::folded::turned` meets its contract.
+-- `crc_fold::folded::turned` meets its contract: each of the four words is swapped.
 use borrow.Author.Needs.{needs}
 use Rattle.crc_fold.specs.Folded.{octs4, lows4}
 use Rattle.crc_fold.proofs.Rows.{four-alike}

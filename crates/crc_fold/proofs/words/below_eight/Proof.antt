@@ -1,4 +1,4 @@
--- `crc_fold::words::below_eight` meets its contract.
+-- `crc_fold::words::below_eight` meets its contract: four octets are taken in where there are four, and fewer are left.
 use mathlib.Core.Path.{_∙_}
 use native.Mathlib.Omega.{arith}
 use borrow.Author.Needs.{needs}

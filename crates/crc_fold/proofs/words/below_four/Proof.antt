@@ -1,4 +1,4 @@
--- `crc_fold::words::below_four` meets its contract.
+-- `crc_fold::words::below_four` meets its contract: two octets are taken in where there are two, and fewer are left.
 use mathlib.Core.Path.{_∙_}
 use native.Mathlib.Omega.{arith}
 use borrow.Author.Needs.{needs}

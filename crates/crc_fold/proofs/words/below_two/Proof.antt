@@ -1,4 +1,4 @@
--- `crc_fold::words::below_two` meets its contract.
+-- `crc_fold::words::below_two` meets its contract: the one octet that is left is taken in, or there is none.
 use mathlib.Core.Path.{refl}
 use native.Mathlib.Omega.{arith}
 use lib.ListN.{drop}

@@ -1,4 +1,4 @@
--- `crc_fold::words::low_at` meets its contract.
+-- `crc_fold::words::low_at` meets its contract: the joined octets in the other order are the eight from i on.
 use mathlib.Core.Path.{ap, _∙_}
 use mathlib.Core.List.{reverse}
 use native.Mathlib.Omega.{arith}

@@ -1,4 +1,4 @@
--- `crc_fold::words::swapped` meets its contract.
+-- `crc_fold::words::swapped` meets its contract: the joined octets are those of the word, the lowest first.
 use borrow.Author.Needs.{needs}
 use Rattle.crc_fold.proofs.Word.{swaps}
 use Rattle.crc_fold.proofs.words.swapped.Statement.{statement}

@@ -1,4 +1,4 @@
--- `crc_fold::words::two_in` meets its contract.
+-- `crc_fold::words::two_in` meets its contract: zero octets in front leave nothing, and the register is added to the last two.
 use mathlib.Core.Path.{refl, ap, _∙_}
 use native.Mathlib.Omega.{arith}
 use borrow.Author.Needs.{needs}

@@ -1,4 +1,4 @@
--- `crc_fold::words::word_in` meets its contract.
+-- `crc_fold::words::word_in` meets its contract: a register is the same as its two octets added to the first two of the word.
 use mathlib.Core.Path.{_∙_}
 use native.Mathlib.Omega.{arith}
 use borrow.Author.Needs.{needs}

@@ -1,10 +1,9 @@
+-- `PusVersion::try_from` meets its contract: three nibbles by their arms, and any other fails all three tests.
 use mathlib.Core.Path.{sym, ap}
 use borrow.Author.Tests.{ne-eqb}
 use Rattle.ecss.specs.Version.{versionOf}
 use Rattle.ecss.proofs.PusVersion.try_from.Statement.{statement}
 use Rattle.ecss.proofs.PusVersion.try_from.Tie as tie
-use Rattle.ecss.proofs.PusVersion.try_from.Reads as reads
-use Rattle.ecss.proofs.PusVersion.try_from.Lts as lts
 
 returns : tie.Need-returns
 unfolding versionOf

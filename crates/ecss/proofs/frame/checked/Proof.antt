@@ -1,3 +1,4 @@
+-- `frame::checked` meets its contract: the frame's refusal, or that of the checksum over the total it gives, or this total.
 use mathlib.Core.Path.{sym, ap, _∙_}
 use native.Mathlib.Omega.{arith}
 use Rattle.space_packet.proofs.Answers.{gives-then, refuses-then}
@@ -7,11 +8,6 @@ use Rattle.ecss.specs.Frame.{checkedOf}
 use borrow.Author.Needs.{needs}
 use Rattle.ecss.proofs.frame.checked.Statement.{statement}
 use Rattle.ecss.proofs.frame.checked.Tie as tie
-use Rattle.ecss.proofs.frame.checked.Reads as reads
-use Rattle.ecss.proofs.frame.checked.Lts as lts
-use Rattle.ecss.proofs.frame.frame_of.Reads as frame-of-reads
-use Rattle.ecss.proofs.frame.front.Reads as front-reads
-use Rattle.space_packet.proofs.word_at.Reads as word-at-reads
 
 frame-of-requires : tie.Need-frame-of-requires
 frame-of-requires c κs = search needs

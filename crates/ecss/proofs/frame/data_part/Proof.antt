@@ -1,3 +1,4 @@
+-- `frame::data_part` meets its contract: a total that the frame gives has room for start and checksum, within the octets.
 use mathlib.Core.Path.{sym, ap, _∙_}
 use native.Mathlib.Omega.{arith}
 use Rattle.space_packet.specs.Answer.{sizeAnswer}
@@ -5,10 +6,6 @@ use Rattle.ecss.proofs.Frames.{frame-total}
 use borrow.Author.Needs.{needs}
 use Rattle.ecss.proofs.frame.data_part.Statement.{statement}
 use Rattle.ecss.proofs.frame.data_part.Tie as tie
-use Rattle.ecss.proofs.frame.data_part.Reads as reads
-use Rattle.ecss.proofs.frame.data_part.Lts as lts
-use Rattle.ecss.proofs.frame.frame_of.Reads as frame-of-reads
-use Rattle.ecss.proofs.frame.trailer_len.Reads as trailer-len-reads
 
 frame-of-requires : tie.Need-frame-of-requires
 frame-of-requires c κs = search needs

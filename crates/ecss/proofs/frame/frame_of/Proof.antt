@@ -1,3 +1,4 @@
+-- `frame::frame_of` meets its contract: each test is the definition's, in its order, on the total that the length field states.
 use mathlib.Core.Path.{sym, ap, _∙_}
 use borrow.Author.Tests.{lt-ltb, le-ltb}
 use Rattle.space_packet.proofs.Answers.{refuse-yes}
@@ -6,10 +7,6 @@ use Rattle.ecss.specs.Frame.{frameOf}
 use borrow.Author.Needs.{needs}
 use Rattle.ecss.proofs.frame.frame_of.Statement.{statement}
 use Rattle.ecss.proofs.frame.frame_of.Tie as tie
-use Rattle.ecss.proofs.frame.frame_of.Reads as reads
-use Rattle.ecss.proofs.frame.frame_of.Lts as lts
-use Rattle.ecss.proofs.frame.too_small.Reads as too-small-reads
-use Rattle.space_packet.proofs.word_at.Reads as word-at-reads
 
 too-small-requires : tie.Need-too-small-requires
 too-small-requires c κs = search needs

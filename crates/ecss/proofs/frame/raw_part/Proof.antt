@@ -1,14 +1,9 @@
+-- `frame::raw_part` meets its contract: the empty part where the frame is refused, else the octets of its total.
 use mathlib.Core.Path.{sym, ap, _∙_}
-use native.Mathlib.Omega.{arith}
 use Rattle.space_packet.specs.Answer.{sizeAnswer}
-use Rattle.ecss.proofs.Frames.{frame-total}
 use borrow.Author.Needs.{needs}
 use Rattle.ecss.proofs.frame.raw_part.Statement.{statement}
 use Rattle.ecss.proofs.frame.raw_part.Tie as tie
-use Rattle.ecss.proofs.frame.raw_part.Reads as reads
-use Rattle.ecss.proofs.frame.raw_part.Lts as lts
-use Rattle.ecss.proofs.frame.frame_of.Reads as frame-of-reads
-use Rattle.ecss.proofs.frame.front.Reads as front-reads
 
 frame-of-requires : tie.Need-frame-of-requires
 frame-of-requires c κs = search needs

@@ -1,3 +1,4 @@
+-- `frame::same_octets` meets its contract: what is left from i on is the same just where the whole is, and i rises to the end.
 use mathlib.Core.Path.{_≡_, refl, sym, _∙_}
 use native.Mathlib.Omega.{arith}
 use borrow.Author.Needs.{needs}
@@ -8,8 +9,6 @@ use Rattle.ecss.specs.Frame.{sameOctets}
 use Rattle.ecss.proofs.Octets.{length-differs, same-step, same-stop, same-end}
 use Rattle.ecss.proofs.frame.same_octets.Statement.{statement}
 use Rattle.ecss.proofs.frame.same_octets.Tie as tie
-use Rattle.ecss.proofs.frame.same_octets.Reads as reads
-use Rattle.ecss.proofs.frame.same_octets.Lts as lts
 
 abbrev Inv-loop : tie.InvT-loop
 Inv-loop a b i₀ i = (length a ≡ length b) × (i ≤ length a) × (sameOctets (drop i a) (drop i b) ≡ sameOctets a b)

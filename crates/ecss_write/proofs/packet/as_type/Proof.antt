@@ -1,3 +1,4 @@
+-- `packet::as_type` meets its contract: the flag is set in the header whose type was set.
 use Rattle.space_packet.specs.Header.{idFrom, withId}
 use mathlib.Core.Bool.{true}
 use mathlib.Core.Path.{_∙_, ap}

@@ -1,4 +1,4 @@
--- `packet::asked_last` meets its contract.
+-- `packet::asked_last` meets its contract: a version that is refused is the answer, and one that passes gives the total.
 use mathlib.Core.Path.{sym, ap}
 use Rattle.space_packet.specs.Answer.{checkAnswer}
 use Rattle.space_packet.proofs.Answers.{gives-then, refuses-then}

@@ -1,6 +1,7 @@
-use mathlib.Core.Path.{_∙_, ap, sym, refl}
-use Rattle.space_packet.proofs.Answers.{gives-then, refuses-then, refuse-no, refuse-yes, left-refused, left-written}
-use Rattle.space_packet.specs.Answer.{checkAnswer, sizeAnswer, gives}
+-- `packet::before` meets its contract: the first refusal of three checks in their order, or what the last answers.
+use mathlib.Core.Path.{_∙_, ap, sym}
+use Rattle.space_packet.proofs.Answers.{gives-then, refuses-then}
+use Rattle.space_packet.specs.Answer.{checkAnswer, gives}
 use borrow.Author.Needs.{needs}
 use Rattle.ecss_write.proofs.packet.before.Statement.{statement}
 use Rattle.ecss_write.proofs.packet.before.Tie as tie

@@ -1,7 +1,7 @@
-use Prim.Native.Nat.{_+_}
-use mathlib.Core.Path.{_∙_, ap, sym, refl}
-use Rattle.ecss_write.specs.Write.{writeWith, reserveWith, ownWith, fieldWith, askedBy}
-use Rattle.ecss_write.specs.Write.{totalFor, machineTotal, lengthField, writeIn, dataLenAnswer}
+-- `packet::length_afresh` meets its contract: the field that is given is set, and one that is refused keeps the header.
+use mathlib.Core.Path.{_∙_, ap, sym}
+use Rattle.ecss_write.specs.Write.{askedBy}
+use Rattle.ecss_write.specs.Write.{dataLenAnswer}
 use Rattle.ecss_write.proofs.Written.{afresh-refused, afresh-set}
 use borrow.Author.Needs.{needs}
 use Rattle.ecss_write.proofs.packet.length_afresh.Statement.{statement}

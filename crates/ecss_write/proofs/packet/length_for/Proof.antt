@@ -1,10 +1,10 @@
-use Prim.Native.Nat.{_+_}
+-- `packet::length_for` meets its contract: what is asked before the room, then the field of the data or the header's own.
 use Rattle.space_packet.specs.Bits.{pick}
-use mathlib.Core.Path.{_∙_, ap, sym, refl}
-use Rattle.space_packet.proofs.Answers.{gives-then, refuses-then, refuse-no, refuse-yes, left-refused, left-written}
-use Rattle.space_packet.specs.Answer.{checkAnswer, sizeAnswer, gives}
-use Rattle.ecss_write.specs.Write.{writeWith, reserveWith, ownWith, fieldWith, askedBy}
-use Rattle.ecss_write.specs.Write.{totalFor, machineTotal, lengthField, writeIn, dataLenAnswer}
+use mathlib.Core.Path.{_∙_, ap, sym}
+use Rattle.space_packet.proofs.Answers.{gives-then, refuses-then}
+use Rattle.space_packet.specs.Answer.{checkAnswer, gives}
+use Rattle.ecss_write.specs.Write.{fieldWith}
+use Rattle.ecss_write.specs.Write.{lengthField}
 use borrow.Author.Needs.{needs}
 use Rattle.ecss_write.proofs.packet.length_for.Statement.{statement}
 use Rattle.ecss_write.proofs.packet.length_for.Tie as tie

@@ -1,10 +1,10 @@
+-- `packet::own_checksum` meets its contract: a digest that takes in the three parts in turn is that of all of them.
 use lib.ListN.{replicate}
 use Rattle.space_packet.specs.Header.{headerOctets}
 use mathlib.Core.Path.{_∙_, ap, sym, refl}
-use native.Mathlib.Omega.{arith}
-use Rattle.space_packet.proofs.Answers.{gives-then, refuses-then, refuse-no, refuse-yes, left-refused, left-written}
-use Rattle.space_packet.specs.Answer.{checkAnswer, sizeAnswer, gives}
-use Rattle.ecss_write.specs.Write.{writeWith, reserveWith, ownWith, fieldWith, askedBy}
+use Rattle.space_packet.proofs.Answers.{gives-then, refuses-then}
+use Rattle.space_packet.specs.Answer.{checkAnswer, gives}
+use Rattle.ecss_write.specs.Write.{ownWith}
 use Rattle.ecss_write.proofs.Written.{head-asked, own-head, own-given}
 use borrow.Author.Needs.{needs}
 use Rattle.ecss_write.proofs.packet.own_checksum.Statement.{statement}

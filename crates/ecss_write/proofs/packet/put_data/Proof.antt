@@ -1,4 +1,4 @@
-use native.Mathlib.Omega.{arith}
+-- `packet::put_data` meets its contract: the data has room from `start` on, so it fills that part from its start.
 use Rattle.ecss_write.proofs.Written.{fill-left}
 use borrow.Author.Needs.{needs}
 use Rattle.ecss_write.proofs.packet.put_data.Statement.{statement}

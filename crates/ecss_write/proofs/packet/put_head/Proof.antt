@@ -1,3 +1,4 @@
+-- `packet::put_head` meets its contract: a header in range is written, and `sec` has room behind its six octets.
 use native.Mathlib.Omega.{arith}
 use Rattle.ecss_write.proofs.Written.{head-left}
 use borrow.Author.Needs.{needs}

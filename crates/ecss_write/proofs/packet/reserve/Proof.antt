@@ -1,7 +1,7 @@
-use mathlib.Core.Path.{_∙_, ap, sym, refl}
+-- `packet::reserve` meets its contract: a total that passes the checks fits the buffer and the length field of the header.
+use mathlib.Core.Path.{_∙_, ap, sym}
 use native.Mathlib.Omega.{arith}
-use Rattle.space_packet.proofs.Answers.{gives-then, refuses-then, refuse-no, refuse-yes, left-refused, left-written}
-use Rattle.space_packet.specs.Answer.{checkAnswer, sizeAnswer, gives}
+use Rattle.space_packet.specs.Answer.{sizeAnswer}
 use Rattle.ecss_write.specs.Write.{withLength}
 use Rattle.ecss_write.proofs.Written.{reserves, head-asked, length-asked, headed-by, headed-wrote}
 use borrow.Author.Needs.{needs}

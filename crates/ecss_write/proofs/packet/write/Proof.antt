@@ -1,11 +1,12 @@
+-- `packet::write` meets its contract: refused, without a checksum, or with the checksum over what was just written.
 use Prim.Native.Nat.{_+_}
 use mathlib.Core.List.{_++_}
 use lib.ListN.{length}
 use Rattle.space_packet.specs.Header.{headerOctets}
 use mathlib.Core.Path.{_∙_, ap, sym, refl}
 use native.Mathlib.Omega.{arith}
-use Rattle.space_packet.specs.Answer.{checkAnswer, sizeAnswer, gives}
-use Rattle.ecss_write.specs.Write.{writeWith, reserveWith, ownWith, fieldWith, askedBy}
+use Rattle.space_packet.specs.Answer.{checkAnswer, sizeAnswer}
+use Rattle.ecss_write.specs.Write.{askedBy}
 use Rattle.ecss_write.proofs.Written.{content-length, open-wrote, refused-wrote, sealed-wrote}
 use borrow.Author.Needs.{needs}
 use Rattle.ecss_write.proofs.packet.write.Statement.{statement}

@@ -1,8 +1,8 @@
+-- `packet::write_bare` meets its contract: a total that passes the checks has room for the headers and the data behind them.
 use mathlib.Core.Path.{_∙_, ap, sym, refl}
 use native.Mathlib.Omega.{arith}
-use Rattle.space_packet.proofs.Answers.{gives-then, refuses-then, refuse-no, refuse-yes, left-refused, left-written}
-use Rattle.space_packet.specs.Answer.{checkAnswer, sizeAnswer, gives}
-use Rattle.ecss_write.proofs.Totals.{trailer-le, total-length, total-write}
+use Rattle.space_packet.proofs.Answers.{refuses-then, left-refused}
+use Rattle.space_packet.specs.Answer.{sizeAnswer}
 use Rattle.ecss_write.proofs.Written.{writes, head-asked, bare-wrote}
 use borrow.Author.Needs.{needs}
 use Rattle.ecss_write.proofs.packet.write_bare.Statement.{statement}

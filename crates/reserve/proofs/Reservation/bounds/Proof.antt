@@ -1,3 +1,4 @@
+-- `Reservation::bounds` meets its contract: the check's refusal, or the bounds, whose end cannot fall below 0 once it passed.
 use Rattle.reserve.proofs.Reserved.{bounds-give, holds-in}
 use mathlib.Core.Path.{sym, ap, _∙_}
 use native.Mathlib.Omega.{arith}

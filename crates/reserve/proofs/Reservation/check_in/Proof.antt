@@ -1,3 +1,4 @@
+-- `Reservation::check_in` meets its contract: the check's refusal, then the test of the room.
 use mathlib.Core.Path.{sym, ap, _∙_}
 use borrow.Author.Tests.{lt-ltb, le-ltb}
 use Rattle.space_packet.proofs.Answers.{refuse-yes, refuse-no, gives-then, refuses-then}

@@ -1,3 +1,4 @@
+-- `Reservation::data_len` meets its contract: the check's refusal, or a length that cannot fall below 0 once it passed.
 use Rattle.reserve.proofs.Reserved.{data-len-gives, holds-is}
 use mathlib.Core.Path.{sym, ap, _∙_}
 use native.Mathlib.Omega.{arith}

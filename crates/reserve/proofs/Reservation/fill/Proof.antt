@@ -1,4 +1,4 @@
-use Prim.Native.Nat.{_+_}
+-- `Reservation::fill` meets its contract: the bounds' refusal, or what the fill of the middle answers, put back in its place.
 use mathlib.Core.Path.{sym, ap, _∙_}
 use native.Mathlib.Omega.{arith}
 use Rattle.space_packet.proofs.Answers.{refuses-then}

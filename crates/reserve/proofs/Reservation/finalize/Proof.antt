@@ -1,4 +1,4 @@
-use Prim.Native.Nat.{_+_}
+-- `Reservation::finalize` meets its contract: refused, sealed where there is a checksum, or left as it is where there is none.
 use mathlib.Core.Path.{sym, ap, _∙_}
 use native.Mathlib.Omega.{arith}
 use Rattle.space_packet.proofs.Answers.{gives-then, refuses-then, left-refused, left-written}

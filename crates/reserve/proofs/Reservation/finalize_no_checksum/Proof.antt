@@ -1,3 +1,4 @@
+-- `Reservation::finalize_no_checksum` meets its contract: the check's refusal, or the total less its checksum's octets.
 use mathlib.Core.Path.{sym, ap, _∙_}
 use native.Mathlib.Omega.{arith}
 use Rattle.space_packet.proofs.Answers.{gives-then, refuses-then}

@@ -1,3 +1,4 @@
+-- `Reservation::part` meets its contract: bounds that are given lie in the buffer, and a refusal is the empty part.
 use mathlib.Core.Path.{sym, ap, _∙_}
 use native.Mathlib.Omega.{arith}
 use Rattle.reserve.specs.Reserve.{boundsAnswer}

@@ -1,3 +1,4 @@
+-- `Reservation::part_mut` meets its contract: bounds that are given lie in the buffer; a refusal is the empty part at its start.
 use mathlib.Core.Path.{refl, sym, ap, _∙_}
 use native.Mathlib.Omega.{arith}
 use Rattle.reserve.specs.Reserve.{boundsAnswer}

@@ -1,3 +1,4 @@
+-- `Apid::new` meets its contract: the check's refusal, or the APID where it passes.
 use mathlib.Core.Path.{sym, ap, _∙_}
 use Rattle.space_packet.specs.Answer.{checkAnswer}
 use Rattle.space_packet.proofs.Answers.{gives-then, refuses-then}

@@ -1,4 +1,4 @@
--- `ByteConversionError::numbers` meets its contract.
+-- `ByteConversionError::numbers` meets its contract: each arm is its line of the table.
 use mathlib.Core.Path.{sym, ap, _∙_}
 use Rattle.space_packet.specs.Answer.{bytesNumbers, inNumbers}
 use borrow.Author.Needs.{needs}

@@ -1,3 +1,4 @@
+-- `PacketId::from` meets its contract: the type is of its bit, and the flag and the APID are cut as in the definition.
 use Rattle.space_packet.specs.Fields.{idOf}
 use Prim.Native.Nat.{_/_, _%_}
 use mathlib.Core.Path.{ap, _∙_}

@@ -1,3 +1,4 @@
+-- `PacketId::raw` meets its contract: the type's number and the flag's are at most 1, so no sum can wrap.
 use native.Mathlib.Omega.{arith}
 use Rattle.space_packet.proofs.Numbers.{type-le, bool-le, bool-flag}
 use Rattle.space_packet.specs.Fields.{idRaw}

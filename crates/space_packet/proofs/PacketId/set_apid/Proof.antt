@@ -1,3 +1,4 @@
+-- `PacketId::set_apid` meets its contract: the old packet ID where the check refuses, else the one with the new APID.
 use mathlib.Core.Path.{sym, ap, _∙_}
 use Rattle.space_packet.specs.Answer.{checkAnswer}
 use Rattle.space_packet.proofs.Answers.{kept-new, kept-old}

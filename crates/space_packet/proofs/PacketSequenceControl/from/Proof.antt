@@ -1,3 +1,4 @@
+-- `PacketSequenceControl::from` meets its contract: the flags of the two highest bits, and the count of the rest.
 use Rattle.space_packet.specs.Fields.{pscOf}
 use Prim.Native.Nat.{_%_}
 use mathlib.Core.Path.{ap, _∙_}

@@ -1,3 +1,4 @@
+-- `PacketSequenceControl::raw` meets its contract: the flags' number is at most 3, so the sum cannot wrap.
 use native.Mathlib.Omega.{arith}
 use Rattle.space_packet.proofs.Numbers.{flags-le}
 use Rattle.space_packet.specs.Fields.{pscRaw}

@@ -1,3 +1,4 @@
+-- `PacketType::new_with_raw_value` meets its contract: its test is the definition's, on the lowest bit.
 use borrow.Author.Tests.{eq-eqb, ne-eqb}
 use Rattle.space_packet.proofs.PacketType.new_with_raw_value.Statement.{statement}
 use Rattle.space_packet.proofs.PacketType.new_with_raw_value.Tie as tie

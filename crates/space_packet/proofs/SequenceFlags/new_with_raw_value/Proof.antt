@@ -1,3 +1,4 @@
+-- `SequenceFlags::new_with_raw_value` meets its contract: both tests are the definition's, in each of the four cases.
 use borrow.Author.Tests.{eq-eqb, ne-eqb}
 use Rattle.space_packet.proofs.SequenceFlags.new_with_raw_value.Statement.{statement}
 use Rattle.space_packet.proofs.SequenceFlags.new_with_raw_value.Tie as tie

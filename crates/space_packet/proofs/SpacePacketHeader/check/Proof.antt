@@ -1,3 +1,4 @@
+-- `SpacePacketHeader::check` meets its contract: the version's check, then the APID's, then the count's.
 use mathlib.Core.Path.{_∙_}
 use Rattle.space_packet.specs.Answer.{_then_}
 use Rattle.space_packet.specs.Header.{headerCheck}

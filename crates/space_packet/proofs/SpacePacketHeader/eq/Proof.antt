@@ -1,3 +1,4 @@
+-- `SpacePacketHeader::eq` meets its contract: each comparison is the definition's, types and flags by their numbers.
 use Rattle.space_packet.proofs.Numbers.{beq-flag}
 use Rattle.space_packet.specs.Header.{sameHeader}
 use borrow.Author.Needs.{needs}

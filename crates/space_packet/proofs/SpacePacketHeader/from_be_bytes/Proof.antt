@@ -1,3 +1,4 @@
+-- `SpacePacketHeader::from_be_bytes` meets its contract: fewer than six octets are refused, else each field is of its word.
 use borrow.Author.Tests.{lt-ltb, le-ltb}
 use Rattle.space_packet.proofs.Answers.{refuse-yes, refuse-no}
 use Prim.Native.Nat.{_/_}

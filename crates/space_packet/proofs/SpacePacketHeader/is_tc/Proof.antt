@@ -1,3 +1,4 @@
+-- `SpacePacketHeader::is_tc` meets its contract: the number of the packet's type, compared with 1.
 use Prim.Native.Nat.{ℕ}
 use mathlib.Core.Path.{ap, _∙_}
 use lib.Dec.{eqb}

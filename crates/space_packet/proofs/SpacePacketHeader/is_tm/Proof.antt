@@ -1,3 +1,4 @@
+-- `SpacePacketHeader::is_tm` meets its contract: the number of the packet's type, compared with 0.
 use Prim.Native.Nat.{ℕ}
 use mathlib.Core.Path.{ap, _∙_}
 use lib.Dec.{eqb}

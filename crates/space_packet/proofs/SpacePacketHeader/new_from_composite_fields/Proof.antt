@@ -1,3 +1,4 @@
+-- `SpacePacketHeader::new_from_composite_fields` meets its contract: the version's refusal, or the header where it passes.
 use mathlib.Core.Path.{sym, ap, _∙_}
 use Rattle.space_packet.specs.Answer.{checkAnswer}
 use Rattle.space_packet.proofs.Answers.{gives-then, refuses-then}

@@ -1,3 +1,4 @@
+-- `SpacePacketHeader::new_from_fields` meets its contract: the packet ID and the sequence control, in a new header.
 use mathlib.Core.Path.{_∙_}
 use Rattle.space_packet.specs.Header.{headerOf}
 use borrow.Author.Needs.{needs}

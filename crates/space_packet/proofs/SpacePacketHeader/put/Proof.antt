@@ -1,3 +1,4 @@
+-- `SpacePacketHeader::put` meets its contract: the three words, of which the first cannot wrap: a packet ID is below 8192.
 use Prim.Native.Nat.{_+_, _*_}
 use native.Mathlib.Omega.{arith}
 use mathlib.Core.Path.{_∙_}

@@ -1,3 +1,4 @@
+-- `SpacePacketHeader::rest_of_be_bytes` meets its contract: of fewer than six octets nothing is left, else all behind the sixth.
 use mathlib.Core.Path.{sym}
 use Prim.Native.Nat.{_-_}
 use lib.ListN.{length, drop, drop-of-length-le, length-drop}

@@ -1,3 +1,4 @@
+-- `SpacePacketHeader::set_apid` meets its contract: the packet ID's own edit, in the header that holds it.
 use Rattle.space_packet.proofs.Answers.{set-in}
 use mathlib.Core.Path.{ap, _∙_}
 use Rattle.space_packet.specs.Header.{withId, headerKept}

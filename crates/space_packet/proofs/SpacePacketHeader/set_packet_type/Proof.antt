@@ -1,3 +1,4 @@
+-- `SpacePacketHeader::set_packet_type` meets its contract: the new type with the old flag and APID, in the header.
 use mathlib.Core.Path.{ap, _∙_}
 use Rattle.space_packet.specs.Header.{idFrom, withId}
 use borrow.Author.Needs.{needs}

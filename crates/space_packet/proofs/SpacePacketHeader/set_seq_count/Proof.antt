@@ -1,3 +1,4 @@
+-- `SpacePacketHeader::set_seq_count` meets its contract: the old header where it is refused, else the old flags and the new count.
 use mathlib.Core.Path.{sym, ap, _∙_}
 use Rattle.space_packet.specs.Answer.{checkAnswer}
 use Rattle.space_packet.specs.Header.{pscFrom, withPsc}

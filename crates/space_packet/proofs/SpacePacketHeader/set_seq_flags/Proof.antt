@@ -1,3 +1,4 @@
+-- `SpacePacketHeader::set_seq_flags` meets its contract: the new flags and the old count, in the header.
 use mathlib.Core.Path.{ap, _∙_}
 use Rattle.space_packet.specs.Header.{pscFrom, withPsc}
 use borrow.Author.Needs.{needs}

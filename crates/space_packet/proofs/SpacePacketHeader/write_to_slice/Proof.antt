@@ -1,3 +1,4 @@
+-- `SpacePacketHeader::write_to_slice` meets its contract: the check, then the room, and six octets where both pass.
 use native.Mathlib.Omega.{arith}
 use borrow.Author.Tests.{lt-ltb, le-ltb}
 use mathlib.Core.Path.{sym, ap, _∙_}

@@ -1,3 +1,4 @@
+-- `AckFlags::check` meets its contract: above 15 is the refusal with the value, and the rest passes.
 use borrow.Author.Tests.{lt-ltb, le-ltb}
 use Rattle.space_packet.proofs.Answers.{refuse-yes, refuse-no}
 use mathlib.Core.Path.{sym}

@@ -1,3 +1,4 @@
+-- `AckFlags::new_with_raw_value` meets its contract: the refusal of the check, or the flags where it passes.
 use mathlib.Core.Path.{sym, ap, _∙_}
 use Rattle.space_packet.specs.Answer.{checkAnswer}
 use Rattle.space_packet.proofs.Answers.{gives-then, refuses-then}

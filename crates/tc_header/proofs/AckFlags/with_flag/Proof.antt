@@ -1,3 +1,4 @@
+-- `AckFlags::with_flag` meets its contract: the bit adds its weight at most, and with all of it the sum is at most 255.
 use native.Mathlib.Omega.{arith}
 use Rattle.tc_header.proofs.Flags.{flag-at-most}
 use borrow.Author.Needs.{needs}

@@ -1,4 +1,4 @@
--- `PusTcSecondaryHeader::asks` meets its contract.
+-- `PusTcSecondaryHeader::asks` meets its contract: nothing first, and what the two checks answer.
 use mathlib.Core.Path.{ap₂}
 use Rattle.space_packet.specs.Answer.{Passed, gives}
 use borrow.Author.Needs.{needs}

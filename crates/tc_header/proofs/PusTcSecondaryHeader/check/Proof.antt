@@ -1,3 +1,4 @@
+-- `PusTcSecondaryHeader::check` meets its contract: the flags, the room, then what the check of the version answers.
 use borrow.Author.Tests.{lt-ltb, le-ltb}
 use mathlib.Core.Path.{sym, ap, _∙_}
 use Rattle.space_packet.specs.Answer.{checkAnswer}

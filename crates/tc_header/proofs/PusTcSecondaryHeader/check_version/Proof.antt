@@ -1,3 +1,4 @@
+-- `PusTcSecondaryHeader::check_version` meets its contract: the number 2 passes, and another is refused with that number.
 use mathlib.Core.Path.{sym, ap, _∙_}
 use mathlib.Core.Bool.{not}
 use mathlib.Core.List.{[], _∷_}

@@ -1,3 +1,4 @@
+-- `PusTcSecondaryHeader::eq` meets its contract: each field is tested, and the versions by their numbers.
 use Rattle.tc_header.specs.Header.{sameSec}
 use borrow.Author.Needs.{needs}
 use Rattle.tc_header.proofs.PusTcSecondaryHeader.eq.Statement.{statement}

@@ -1,3 +1,4 @@
+-- `PusTcSecondaryHeader::from_be_bytes` meets its contract: fewer than five octets are refused, and else each field is read.
 use borrow.Author.Tests.{lt-ltb, le-ltb}
 use Rattle.space_packet.proofs.Answers.{refuse-yes, refuse-no}
 use Prim.Native.Nat.{_%_}

@@ -1,3 +1,4 @@
+-- `PusTcSecondaryHeader::put` meets its contract: five writes in a row lay the octets, and 32 is version C's number times 16.
 use mathlib.Core.Path.{_≡_, ap}
 use Prim.Native.Nat.{_+_, _*_}
 use Rattle.ecss.specs.Version.{versionNumber}

@@ -1,3 +1,4 @@
+-- `PusTcSecondaryHeader::write_to_slice` meets its contract: what passes the check is what `put` asks for.
 use mathlib.Core.Path.{sym, ap, _∙_}
 use lib.ListN.{length}
 use borrow.Author.Tests.{ltb-false}

@@ -1,3 +1,4 @@
+-- `PusTcRecord::new` meets its contract: the refusal of the checked frame, or the record of its total, which fits the slice.
 use mathlib.Core.Path.{sym, ap, _∙_}
 use Rattle.space_packet.specs.Answer.{sizeAnswer}
 use Rattle.space_packet.proofs.Answers.{gives-then, refuses-then}

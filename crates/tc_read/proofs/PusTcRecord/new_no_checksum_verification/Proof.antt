@@ -1,3 +1,4 @@
+-- `PusTcRecord::new_no_checksum_verification` meets its contract: the frame's refusal, or the record of its total, which fits.
 use mathlib.Core.Path.{sym, ap, _∙_}
 use Rattle.space_packet.specs.Answer.{sizeAnswer}
 use Rattle.space_packet.proofs.Answers.{gives-then, refuses-then}

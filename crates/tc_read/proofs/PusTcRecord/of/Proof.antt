@@ -1,3 +1,4 @@
+-- `PusTcRecord::of` meets its contract: there are octets enough for both headers, so neither read is refused.
 use Prim.Native.Nat.{ℕ, _-_}
 use mathlib.Core.Path.{sym, ap, _∙_}
 use native.Mathlib.Omega.{arith}

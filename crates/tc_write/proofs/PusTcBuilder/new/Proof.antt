@@ -1,4 +1,4 @@
--- `PusTcBuilder::new` meets its contract.
+-- `PusTcBuilder::new` meets its contract: the default header as a telecommand's, and the secondary header of message type 0, 0.
 use mathlib.Core.Path.{_∙_, ap, ap₂}
 use Rattle.ecss.specs.declared.PusVersion.the-variants.{PusC}
 use Rattle.space_packet.specs.declared.PacketType.the-variants.{Tc}

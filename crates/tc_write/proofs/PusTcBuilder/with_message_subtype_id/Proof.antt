@@ -1,4 +1,4 @@
--- `PusTcBuilder::with_message_subtype_id` meets its contract.
+-- `PusTcBuilder::with_message_subtype_id` meets its contract: the message type of the old service with that subtype.
 use mathlib.Core.Path.{_∙_, ap}
 use Rattle.ecss.specs.Version.{messageType}
 use Rattle.tc_header.specs.Header.{secFrom}

@@ -1,4 +1,4 @@
--- `PusTcBuilder::with_message_type_id` meets its contract.
+-- `PusTcBuilder::with_message_type_id` meets its contract: the creator with that secondary header, in the builder.
 use mathlib.Core.Path.{ap}
 use Rattle.tc_write.specs.Builder.{builderOf}
 use borrow.Author.Needs.{needs}

@@ -1,4 +1,4 @@
--- `PusTcBuilder::with_service_type_id` meets its contract.
+-- `PusTcBuilder::with_service_type_id` meets its contract: the message type of that service with the old subtype.
 use mathlib.Core.Path.{_∙_, ap}
 use Rattle.ecss.specs.Version.{messageType}
 use Rattle.tc_header.specs.Header.{secFrom}

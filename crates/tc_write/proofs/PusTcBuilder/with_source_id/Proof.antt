@@ -1,4 +1,4 @@
--- `PusTcBuilder::with_source_id` meets its contract.
+-- `PusTcBuilder::with_source_id` meets its contract: the creator's own edit, in the builder that holds it.
 use mathlib.Core.Path.{ap}
 use Rattle.tc_write.specs.Builder.{builderOf}
 use borrow.Author.Needs.{needs}

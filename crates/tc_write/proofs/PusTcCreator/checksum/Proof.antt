@@ -1,3 +1,4 @@
+-- `PusTcCreator::checksum` meets its contract: none where none is written, and else its own or the refusal of it.
 use mathlib.Core.Path.{_∙_, ap, sym}
 use borrow.Author.Tests.{not-false, not-true}
 use Rattle.space_packet.proofs.Answers.{gives-then, refuses-then}

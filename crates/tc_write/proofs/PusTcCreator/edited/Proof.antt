@@ -1,4 +1,4 @@
--- `PusTcCreator::edited` meets its contract.
+-- `PusTcCreator::edited` meets its contract: the creator with the header of the edit, beside the edit's own result.
 use mathlib.Core.Path.{ap}
 use Rattle.space_packet.specs.Answer.{checkAnswer}
 use Rattle.tc_write.specs.declared.PusTcCreator.{PusTcCreator}

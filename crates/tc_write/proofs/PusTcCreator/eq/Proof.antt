@@ -1,3 +1,4 @@
+-- `PusTcCreator::eq` meets its contract: the first part that differs ends it, and last the choices of checksum decide.
 use Rattle.tc_write.proofs.Made.{and-go, and-stop}
 use Rattle.tc_write.specs.Creator.{sameCreator}
 use Rattle.space_packet.proofs.Numbers.{beq-flag}

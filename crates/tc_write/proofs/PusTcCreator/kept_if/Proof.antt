@@ -1,3 +1,4 @@
+-- `PusTcCreator::kept_if` meets its contract: a refusal keeps the old creator, and a pass takes the new one.
 use Rattle.space_packet.proofs.Answers.{kept-new, kept-old}
 use Rattle.space_packet.specs.Answer.{checkAnswer}
 use mathlib.Core.Path.{ap, refl}

@@ -1,3 +1,4 @@
+-- `PusTcCreator::new_simple` meets its contract: what `new` makes of the secondary header with all four flags and source 0.
 use mathlib.Core.Path.{_∙_, ap}
 use lib.ListN.{length}
 use Rattle.tc_write.specs.Creator.{newOf}

@@ -1,4 +1,4 @@
--- `PusTcCreator::set_seq_flags` meets its contract.
+-- `PusTcCreator::set_seq_flags` meets its contract: the header's own edit, in the creator that holds it.
 use mathlib.Core.Path.{_∙_, ap}
 use Rattle.tc_write.specs.Creator.{withHeader}
 use borrow.Author.Needs.{needs}

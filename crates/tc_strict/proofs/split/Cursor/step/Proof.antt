@@ -1,3 +1,4 @@
+-- `Cursor::step` meets its contract: at the end, shorter than a header, shorter than it states, or a whole packet.
 use lib.ListN.{drop}
 use Prim.Native.Nat.{ℕ, _+_}
 use mathlib.Core.Path.{sym, ap, _∙_}
