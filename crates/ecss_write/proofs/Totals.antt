@@ -5,10 +5,10 @@ use mathlib.Core.Bool.{Bool, true, false}
 use native.Mathlib.Omega.{arith}
 use lib.Dec.{lit≤}
 use borrow.Author.Tests.{ltb-false, le-ltb}
-use Rattle.space_packet.specs.Answer.{gives}
+use Rattle.space_packet.specs.Answer.{gives, inBuffer}
 use Rattle.space_packet.proofs.Answers.{gives-inj, refuse-no, refuse-gives, then-gives, gives-then}
 use Rattle.ecss.specs.Frame.{trailer}
-use Rattle.ecss_write.specs.Write.{totalFor, machineTotal, lengthField, inBuffer, writeIn}
+use Rattle.ecss_write.specs.Write.{totalFor, machineTotal, lengthField, writeIn}
 
 pub trailer-le : (b : Bool) → trailer b ≤ 2
 trailer-le true = lit≤ tt

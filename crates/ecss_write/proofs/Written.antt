@@ -10,7 +10,7 @@ use borrow.Rule.Slice.PartMut.{putMid}
 use Rattle.crc.specs.Digest.{digestOf, taken, checksumHeld}
 use Rattle.crc.specs.declared.Digest.{Digest}
 use Rattle.crc.proofs.Parts.{digest-parts}
-use Rattle.space_packet.specs.Answer.{Numbers, Answer, Passed, gives, refuses, _then_, sizeAnswer}
+use Rattle.space_packet.specs.Answer.{Numbers, Answer, Passed, gives, refuses, _then_, sizeAnswer, inBuffer}
 use Rattle.space_packet.specs.Header.{leftBy, headerCheck, headerOctets, headerWrite}
 use Rattle.space_packet.specs.Wrote.{Wrote}
 use Rattle.space_packet.specs.declared.SpacePacketHeader.{SpacePacketHeader}
@@ -18,7 +18,7 @@ use Rattle.space_packet.specs.declared.SizeResult.{SizeResult}
 use Rattle.space_packet.proofs.Answers.{gives-inj, refuses-inj, never, refuse-no, refuse-gives, then-gives, gives-then, refuses-then, left-refused, left-written, kept-new, kept-old}
 use Rattle.space_packet.proofs.RoundTrip.{length-headerOctets}
 use Rattle.ecss.specs.Frame.{trailer, sealed, closed}
-use Rattle.ecss_write.specs.Write.{totalFor, machineTotal, limited, lengthField, inBuffer, writeIn, asked, headedAt, writeWith, bareWith, reserveWith, ownWith, withLength, fieldWith, afreshWith}
+use Rattle.ecss_write.specs.Write.{totalFor, machineTotal, limited, lengthField, writeIn, asked, headedAt, writeWith, bareWith, reserveWith, ownWith, withLength, fieldWith, afreshWith}
 use Rattle.ecss_write.proofs.Parts.{mid-filled}
 use Rattle.ecss_write.proofs.Totals.{length-total, total-length, field-is, write-total, total-write}
 use Rattle.ecss_write.proofs.Over.{over-take, over-drop, over-more}

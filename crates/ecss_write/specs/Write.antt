@@ -7,7 +7,7 @@ use lib.Dec.{ltb}
 use lib.ListN.{drop}
 use Rattle.crc_register.specs.Crc.{crcOf}
 use Rattle.space_packet.specs.Bits.{pick}
-use Rattle.space_packet.specs.Answer.{Answer, Passed, Kept, refusal, gives, refuses, refuseIf, _then_, setIf, checkAnswer, numbersOf}
+use Rattle.space_packet.specs.Answer.{Answer, Passed, Kept, refusal, gives, refuses, refuseIf, _then_, setIf, checkAnswer, numbersOf, inBuffer}
 use Rattle.space_packet.specs.Header.{headerCheck, headerOf, idFrom, withId}
 use Rattle.space_packet.specs.declared.SpacePacketHeader.{SpacePacketHeader}
 use Rattle.space_packet.specs.declared.PacketType.{PacketType}
@@ -38,10 +38,6 @@ lengthField start b n = machineTotal start b n then λ total. limited n total th
 abbrev pub dataLenAnswer : DataLenResult → Answer ℕ
 dataLenAnswer (D.Ok n) = gives n
 dataLenAnswer (D.Err e) = refuses (numbersOf e)
-
--- a buffer of m octets has room for a total
-abbrev pub inBuffer : ℕ → ℕ → Answer ℕ
-inBuffer m total = refuseIf (ltb m total) (refusal 1 (m ∷ total ∷ [])) (gives total)
 
 -- writing n octets of data with the trailer b into a buffer of m
 unfoldable pub writeIn : ℕ → Bool → ℕ → ℕ → Answer ℕ

@@ -7,13 +7,13 @@ use native.Mathlib.Omega.{arith}
 use lib.ListN.{length, take, drop, take-append-drop, length-drop}
 use lib.Seq.{length-take-le}
 use borrow.Rule.Slice.PartMut.{putMid}
-use Rattle.space_packet.specs.Answer.{Answer, gives, refuses, sizeAnswer}
+use Rattle.space_packet.specs.Answer.{Answer, gives, refuses, sizeAnswer, inBuffer}
 use Rattle.space_packet.specs.Header.{leftBy}
 use Rattle.space_packet.specs.Wrote.{Wrote}
 use Rattle.space_packet.specs.declared.SizeResult.{SizeResult}
 use Rattle.space_packet.proofs.Answers.{gives-then, left-written}
 use Rattle.ecss.specs.Frame.{trailer, sealed, closed}
-use Rattle.ecss_write.specs.Write.{inBuffer, writeIn}
+use Rattle.ecss_write.specs.Write.{writeIn}
 use Rattle.ecss_write.proofs.Totals.{in-buffer-is, total-write}
 use Rattle.ecss_write.proofs.Parts.{mid-filled}
 use Rattle.reserve.specs.Reserve.{fillIn, filledBy, holdsIn, finishIn, finished}

@@ -4,9 +4,8 @@ use mathlib.Core.Bool.{not}
 use mathlib.Core.List.{List, [], _++_}
 use lib.ListN.{take, drop}
 use lib.Dec.{ltb, eqb}
-use Rattle.space_packet.specs.Answer.{Answer, Passed, refusal, gives, refuses, refuseIf, _then_, numbersOf}
+use Rattle.space_packet.specs.Answer.{Answer, Passed, refusal, gives, refuses, refuseIf, _then_, numbersOf, inBuffer}
 use Rattle.ecss.specs.Frame.{trailer, closed}
-use Rattle.ecss_write.specs.Write.{inBuffer}
 use Rattle.reserve.specs.declared.Reservation.{Reservation}
 use Rattle.reserve.specs.declared.Bounds.{Bounds}
 use Rattle.reserve.specs.declared.BoundsResult.{BoundsResult}

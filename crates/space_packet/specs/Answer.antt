@@ -77,6 +77,10 @@ inNumbers n = record { number = n .number; count = length (n .values); first = g
 abbrev pub inRange : ℕ → ℕ → ℕ → Passed
 inRange place largest value = refuseIf (ltb largest value) (refusal 7 (place ∷ value ∷ [])) (gives tt)
 
+-- a buffer of m octets has room for a total
+abbrev pub inBuffer : ℕ → ℕ → Answer ℕ
+inBuffer m total = refuseIf (ltb m total) (refusal 1 (m ∷ total ∷ [])) (gives total)
+
 -- ---- the answers of this crate's calls
 
 abbrev pub checkAnswer : CheckResult → Passed

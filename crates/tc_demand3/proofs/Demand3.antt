@@ -26,10 +26,12 @@ use Rattle.exactness.proofs.Exact.{complete, sound, unique, total-is, rewritten
 use Rattle.exactness.proofs.Changed.{refused}
 use Rattle.exactness.proofs.Given.{checked, handed-rules, handed-new, new-handed, handed-reserve, rules-write}
 use Rattle.exactness.proofs.Agree.{reserved-agrees}
-use Rattle.tc_header.specs.Header.{pusC, commandC}
+use Rattle.tc_header.specs.Header.{pusC}
+use Rattle.tc_write.specs.Command.{commandC}
 use Rattle.tc_header.specs.declared.PusTcSecondaryHeader.{PusTcSecondaryHeader}
 use Rattle.tc_header.proofs.Checks.{ack-passes}
-use Rattle.tc_header.proofs.Laws.{laws, writer-laws}
+use Rattle.tc_header.proofs.Laws.{laws}
+use Rattle.tc_write.proofs.Command.{writer-laws}
 use Rattle.tc_write.specs.Creator.{creatorOf, newOf, contentFor, PacketWrote}
 use Rattle.tc_write.specs.declared.PusTcCreator.{PusTcCreator}
 use Rattle.tc_reserved.specs.Reserved.{reservationOf, reserveOf}

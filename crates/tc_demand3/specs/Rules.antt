@@ -16,7 +16,8 @@ use Rattle.ecss.specs.Kind.{Packet, BeginsWith, packetOf, contentOf}
 use Rattle.ecss.specs.declared.Crc16.the-variants.{Some}
 use Rattle.ecss_write.specs.Writer.{packetBy, madeBy}
 use Rattle.reserve.specs.Reserve.{fillIn, filledBy, finishIn, finished}
-use Rattle.tc_header.specs.Header.{pusC, commandC}
+use Rattle.tc_header.specs.Header.{pusC}
+use Rattle.tc_write.specs.Command.{commandC}
 use Rattle.tc_header.specs.declared.PusTcSecondaryHeader.{PusTcSecondaryHeader}
 use Rattle.tc_reserved.specs.Reserved.{reservedLeft}
 use Rattle.tc_reserved.specs.declared.PusTcCreatorWithReservedAppData.{PusTcCreatorWithReservedAppData}

@@ -3,10 +3,9 @@ use Prim.Native.Nat.{ℕ, _≤_}
 use mathlib.Core.Path.{_≡_, refl, sym, ap, _∙_}
 use mathlib.Core.Logic.{_↔_}
 use borrow.Author.Tests.{eqb-true, not-false, le-ltb, ltb-false}
-use Rattle.space_packet.specs.Answer.{Answer, Passed, gives, refuses, refuseIf, _then_}
+use Rattle.space_packet.specs.Answer.{Answer, Passed, gives, refuses, refuseIf, _then_, inBuffer}
 use Rattle.space_packet.proofs.Answers.{gives-inj, refuse-no, refuse-gives}
 use Rattle.ecss.specs.Version.{versionNumber, versionOf}
-use Rattle.ecss_write.specs.Write.{inBuffer}
 use Rattle.ecss.specs.declared.PusVersion.{PusVersion}
 use Rattle.ecss.specs.declared.PusVersion.the-variants.{EsaPus, PusA, PusC}
 use Rattle.tc_header.specs.Header.{ackCheck, versionCheck, secWrite}

@@ -6,12 +6,10 @@ use mathlib.Core.List.{List, [], _∷_, _++_}
 use lib.ListN.{length, getD}
 use lib.Dec.{eqb, ltb}
 use Rattle.space_packet.specs.Bits.{bits, flagNumber, be16, word}
-use Rattle.space_packet.specs.Answer.{Answer, Passed, refusal, gives, refuses, refuseIf, _then_, inRange, numbersOf}
+use Rattle.space_packet.specs.Answer.{Answer, Passed, refusal, gives, refuses, refuseIf, _then_, inRange, numbersOf, inBuffer}
 use Rattle.space_packet.specs.declared.PacketType.the-variants.{Tc}
 use Rattle.ecss.specs.Version.{versionNumber}
 use Rattle.ecss.specs.Kind.{Kind}
-use Rattle.ecss_write.specs.Write.{inBuffer}
-use Rattle.ecss_write.specs.Writer.{Writer}
 use Rattle.ecss.specs.declared.MessageTypeId.{MessageTypeId}
 use Rattle.ecss.specs.declared.PusVersion.{PusVersion}
 use Rattle.ecss.specs.declared.PusVersion.the-variants.{PusC}
@@ -86,15 +84,6 @@ pusC = record {
   dec = secOf;
   rule = λ l. gives tt;
   Fits = Fits;
-}
-
--- what its writers ask: 7 for the acknowledgement flags, and 3 after the room
-abbrev pub commandC : Writer PusTcSecondaryHeader
-commandC = record {
-  kind = pusC;
-  first = λ x. gives tt;
-  fields = λ x. ackCheck (x .«ack_flags»);
-  version = λ x. versionCheck (x .version);
 }
 
 -- ---- the calls

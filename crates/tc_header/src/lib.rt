@@ -4,17 +4,14 @@ ghost use mathlib.Core.List.{_++_};
 ghost use Prim.Native.Nat.{_+_, _*_, _/_, _%_, _<_, _≤_};
 ghost use lib.ListN.{length, getD, drop};
 ghost use Rattle.space_packet.specs.Bits.{lowest};
-ghost use Rattle.space_packet.specs.Answer.{gives, _then_, inRange, checkAnswer};
+ghost use Rattle.space_packet.specs.Answer.{gives, _then_, inRange, checkAnswer, inBuffer};
 ghost use Rattle.space_packet.specs.Wrote.{Wrote};
-ghost use Rattle.ecss_write.specs.Write.{inBuffer, asksAnswer};
-ghost use Rattle.ecss_write.specs.Writer.{askedOf};
 ghost use Rattle.ecss.specs.Kind.{startOf, strictRule};
 ghost use Rattle.ecss.specs.declared.PusVersion.the-variants.{PusC};
-ghost use Rattle.tc_header.specs.Header.{ackCheck, ackOf, ackAnswer, withFlag, secOctets, secFrom, versionCheck, secWrite, secRead, secAnswer, sameSec, pusC, commandC};
+ghost use Rattle.tc_header.specs.Header.{ackCheck, ackOf, ackAnswer, withFlag, secOctets, secFrom, versionCheck, secWrite, secRead, secAnswer, sameSec, pusC};
 use ecss::MessageTypeId;
 use ecss::PusError;
 use ecss::PusVersion;
-use ecss_write::packet::Asks;
 use space_packet::ByteConversionError;
 use space_packet::CheckResult;
 use space_packet::PacketType;
@@ -229,20 +226,6 @@ impl PusTcSecondaryHeader {
             return CheckResult::Err(PusError::VersionNotSupported(number));
         }
         CheckResult::Ok
-    }
-
-    // What its writers ask of it: 7, and 3 after the room.
-    pub fn asks(self) -> Asks
-        ensures { λ r. ⌜ asksAnswer r ≡ askedOf commandC self ⌝ }
-    {
-        let ack = self.ack_flags;
-        let fields = ack.check();
-        let version = self.check_version();
-        Asks {
-            first: CheckResult::Ok,
-            fields,
-            version,
-        }
     }
 
     // Whether every field is the same.

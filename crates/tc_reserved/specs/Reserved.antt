@@ -7,7 +7,8 @@ use Rattle.space_packet.specs.Answer.{Answer, gives, refuses, _then_, numbersOf
 use Rattle.space_packet.specs.declared.SpacePacketHeader.{SpacePacketHeader}
 use Rattle.ecss.specs.Kind.{startOf}
 use Rattle.ecss_write.specs.Writer.{reserveBy, headBy, headedBy}
-use Rattle.tc_header.specs.Header.{pusC, commandC}
+use Rattle.tc_header.specs.Header.{pusC}
+use Rattle.tc_write.specs.Command.{commandC}
 use Rattle.tc_header.specs.declared.PusTcSecondaryHeader.{PusTcSecondaryHeader}
 use Rattle.tc_reserved.specs.declared.PusTcCreatorWithReservedAppData.{PusTcCreatorWithReservedAppData}
 use Rattle.tc_reserved.specs.declared.ReservedResult.{ReservedResult}

@@ -56,7 +56,7 @@ impl PusTcCreatorWithReservedAppData {
         let mut sec = [0u8; PusTcSecondaryHeader::HEADER_LEN];
         sec_header.write_to_slice(&mut sec);
         let reserved = packet::reserve(
-            sec_header.asks(),
+            tc_write::asks(sec_header),
             header,
             &sec,
             app_data_len,

@@ -15,7 +15,8 @@ use Rattle.ecss.specs.declared.CreatorConfig.{CreatorConfig}
 use Rattle.ecss.specs.declared.Crc16.{Crc16}
 use Rattle.ecss.specs.declared.Crc16.the-variants.{Some, None}
 use Rattle.ecss_write.specs.Writer.{contentBy, octetsBy, newBy, afreshBy, writeBy, bareBy, ownBy}
-use Rattle.tc_header.specs.Header.{commandC, sameSec}
+use Rattle.tc_header.specs.Header.{sameSec}
+use Rattle.tc_write.specs.Command.{commandC}
 use Rattle.tc_header.specs.declared.PusTcSecondaryHeader.{PusTcSecondaryHeader}
 use Rattle.tc_write.specs.declared.PusTcCreator.{PusTcCreator}
 use Rattle.tc_write.specs.declared.PusTcCreatorSet.{PusTcCreatorSet}

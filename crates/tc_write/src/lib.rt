@@ -11,8 +11,10 @@ ghost use Rattle.space_packet.specs.declared.PacketType.the-variants.{Tc};
 ghost use Rattle.ecss.specs.Kind.{startOf};
 ghost use Rattle.ecss.specs.Version.{messageType};
 ghost use Rattle.ecss.specs.declared.PusVersion.the-variants.{PusC};
-ghost use Rattle.ecss_write.specs.Write.{machineTotal, crcAnswer};
+ghost use Rattle.ecss_write.specs.Write.{machineTotal, crcAnswer, asksAnswer};
+ghost use Rattle.ecss_write.specs.Writer.{askedOf};
 ghost use Rattle.tc_header.specs.Header.{ackCheck, ackOf, secFrom, pusC};
+ghost use Rattle.tc_write.specs.Command.{commandC};
 ghost use Rattle.tc_write.specs.Creator.{creatorOf, newOf, creatorAnswer, keptBy, creatorKept, withHeader, withSec, updated, ownChecksum, checksumOf, checksumAnswer, PacketWrote, ContentWrote, sameCreator};
 ghost use Rattle.tc_write.specs.Builder.{builderOf, defaultBuilder, builderKept};
 use ecss::Crc16;
@@ -23,6 +25,7 @@ use ecss::PusVersion;
 use ecss::frame;
 use ecss_write::DataLenResult;
 use ecss_write::packet;
+use ecss_write::packet::Asks;
 pub use ecss_write::packet::CrcResult;
 use space_packet::Apid;
 use space_packet::CheckResult;
@@ -39,6 +42,20 @@ pub use tc_header::AckFlags;
 pub use tc_header::PUC_TC_SECONDARY_HEADER_LEN;
 pub use tc_header::PUS_TC_MIN_LEN_WITHOUT_APP_DATA;
 pub use tc_header::PusTcSecondaryHeader;
+
+// What writers ask of the secondary header: 7, and 3 after the room.
+pub fn asks(sec_header: PusTcSecondaryHeader) -> Asks
+    ensures { λ r. ⌜ asksAnswer r ≡ askedOf commandC «sec_header» ⌝ }
+{
+    let ack = sec_header.ack_flags;
+    let fields = ack.check();
+    let version = sec_header.check_version();
+    Asks {
+        first: CheckResult::Ok,
+        fields,
+        version,
+    }
+}
 
 // ---- the creator
 
@@ -77,7 +94,7 @@ impl PusTcCreator {
     {
         let header = packet::as_type(sp_header, PacketType::Tc);
         let field = packet::length_for(
-            sec_header.asks(),
+            asks(sec_header),
             header,
             PUS_TC_MIN_LEN_WITHOUT_APP_DATA,
             app_data.len(),
@@ -392,7 +409,7 @@ impl PusTcCreator {
         let h = self.sp_header;
         let x = self.sec_header;
         let start = PUS_TC_MIN_LEN_WITHOUT_APP_DATA;
-        self.edited(packet::length_afresh(x.asks(), h, start, app_data.len(), self.has_checksum))
+        self.edited(packet::length_afresh(asks(x), h, start, app_data.len(), self.has_checksum))
     }
 
     // Whether the headers, the data and the choice of checksum are the same.
@@ -433,7 +450,7 @@ impl PusTcCreator {
         let x = self.sec_header;
         let mut sec = [0u8; PusTcSecondaryHeader::HEADER_LEN];
         x.write_to_slice(&mut sec);
-        packet::own_checksum(x.asks(), self.sp_header, &sec, app_data)
+        packet::own_checksum(asks(x), self.sp_header, &sec, app_data)
     }
 
     pub fn calc_own_crc16_no_table(self, app_data: &[u8]) -> CrcResult
@@ -478,7 +495,7 @@ impl PusTcCreator {
         let mut sec = [0u8; PusTcSecondaryHeader::HEADER_LEN];
         x.write_to_slice(&mut sec);
         packet::write_bare(
-            x.asks(),
+            asks(x),
             self.sp_header,
             &sec,
             app_data,
@@ -494,7 +511,7 @@ impl PusTcCreator {
         let mut sec = [0u8; PusTcSecondaryHeader::HEADER_LEN];
         x.write_to_slice(&mut sec);
         packet::write(
-            x.asks(),
+            asks(x),
             self.sp_header,
             &sec,
             app_data,

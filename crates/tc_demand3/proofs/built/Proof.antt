@@ -7,8 +7,9 @@ use Rattle.space_packet.proofs.Answers.{gives-inj, gives-then, never}
 use Rattle.ecss.specs.Kind.{Rules}
 use Rattle.ecss_write.specs.Writer.{packetBy, madeBy, Handed}
 use Rattle.exactness.proofs.Given.{handed-rules, handed-new}
-use Rattle.tc_header.specs.Header.{pusC, commandC}
-use Rattle.tc_header.proofs.Laws.{writer-laws}
+use Rattle.tc_header.specs.Header.{pusC}
+use Rattle.tc_write.specs.Command.{commandC}
+use Rattle.tc_write.proofs.Command.{writer-laws}
 use Rattle.tc_write.specs.Creator.{creatorOf, newOf, creatorAnswer}
 use Rattle.tc_write.specs.declared.PusTcCreator.{PusTcCreator}
 use Rattle.tc_demand3.specs.Rules.{Telecommand, reportFor}

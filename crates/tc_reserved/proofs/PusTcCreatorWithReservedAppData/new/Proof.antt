@@ -5,8 +5,8 @@ use native.Mathlib.Omega.{arith}
 use lib.ListN.{length, replicate}
 use Rattle.space_packet.specs.Answer.{Answer, gives, _then_}
 use Rattle.ecss_write.proofs.Calls.{reserve-answer, reserve-left}
-use Rattle.tc_header.specs.Header.{commandC}
-use Rattle.tc_header.proofs.Laws.{hands}
+use Rattle.tc_write.specs.Command.{commandC}
+use Rattle.tc_write.proofs.Command.{hands}
 use Rattle.tc_reserved.specs.Reserved.{reservationOf}
 use borrow.Author.Needs.{needs}
 use Rattle.tc_reserved.proofs.PusTcCreatorWithReservedAppData.new.Statement.{statement}

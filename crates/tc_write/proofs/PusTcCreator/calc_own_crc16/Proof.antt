@@ -2,8 +2,8 @@
 use mathlib.Core.Path.{refl, _∙_}
 use native.Mathlib.Omega.{arith}
 use lib.ListN.{replicate}
-use Rattle.tc_header.specs.Header.{commandC}
-use Rattle.tc_header.proofs.Laws.{hands}
+use Rattle.tc_write.specs.Command.{commandC}
+use Rattle.tc_write.proofs.Command.{hands}
 use Rattle.ecss_write.proofs.Calls.{own}
 use borrow.Author.Needs.{needs}
 use Rattle.tc_write.proofs.PusTcCreator.calc_own_crc16.Statement.{statement}

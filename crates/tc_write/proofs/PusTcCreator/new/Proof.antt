@@ -6,7 +6,8 @@ use Rattle.space_packet.proofs.Answers.{gives-then, refuses-then}
 use Rattle.ecss_write.specs.Write.{dataLenAnswer}
 use Rattle.ecss_write.proofs.Calls.{new-refused, new-gives}
 use Rattle.ecss.specs.Kind.{startOf}
-use Rattle.tc_header.specs.Header.{pusC, commandC}
+use Rattle.tc_header.specs.Header.{pusC}
+use Rattle.tc_write.specs.Command.{commandC}
 use borrow.Author.Needs.{needs}
 use Rattle.tc_write.proofs.PusTcCreator.new.Statement.{statement}
 use Rattle.tc_write.proofs.PusTcCreator.new.Tie as tie

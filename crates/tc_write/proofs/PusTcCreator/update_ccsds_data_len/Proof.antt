@@ -4,7 +4,8 @@ use lib.ListN.{length}
 use Rattle.tc_write.specs.Creator.{keptBy, withHeader}
 use Rattle.ecss_write.proofs.Calls.{afresh}
 use Rattle.ecss.specs.Kind.{startOf}
-use Rattle.tc_header.specs.Header.{pusC, commandC}
+use Rattle.tc_header.specs.Header.{pusC}
+use Rattle.tc_write.specs.Command.{commandC}
 use borrow.Author.Needs.{needs}
 use Rattle.tc_write.proofs.PusTcCreator.update_ccsds_data_len.Statement.{statement}
 use Rattle.tc_write.proofs.PusTcCreator.update_ccsds_data_len.Tie as tie

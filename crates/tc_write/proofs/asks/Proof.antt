@@ -1,9 +1,9 @@
--- `PusTcSecondaryHeader::asks` meets its contract: nothing first, and what the two checks answer.
+-- `tc_write::asks` meets its contract: nothing first, and what the two checks answer.
 use mathlib.Core.Path.{ap₂}
 use Rattle.space_packet.specs.Answer.{Passed, gives}
 use borrow.Author.Needs.{needs}
-use Rattle.tc_header.proofs.PusTcSecondaryHeader.asks.Statement.{statement}
-use Rattle.tc_header.proofs.PusTcSecondaryHeader.asks.Tie as tie
+use Rattle.tc_write.proofs.asks.Statement.{statement}
+use Rattle.tc_write.proofs.asks.Tie as tie
 
 check-requires : tie.Need-check-requires
 check-requires c κs = search needs
