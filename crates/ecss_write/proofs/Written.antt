@@ -61,21 +61,21 @@ module _ (before : Passed) (start : ℕ) (b : Bool) (n old : ℕ) (h : SpacePack
       ap (λ (z : SpacePacketHeader). record { passed = gives tt; kept = z }) (q ∙ ap (withLength h) (field-total start b n f (l .2) .0))
       ∙ kept-new _ _ _ _ (sym w) w
 
--- ---- the checks, by what is asked up to the room
+-- ---- the checks, by what is asked up to the room: by cases on what is asked, not by how the definition groups it
 
-room-first : {A : Type 0} (c : Passed) (w : Answer ℕ) (f : ℕ → Answer A) → (c then λ _. w then f) ≡ ((c then λ _. w) then f)
-unfolding _then_
-room-first (refuses e) w f = refl
-room-first (gives u) w f = refl
+pub write-by-room : (before after : Passed) (start : ℕ) (b : Bool) (n m : ℕ)
+    → writeWith before after start b n m ≡ ((before then λ _. writeIn start b n m) then λ total. after then λ _. gives total)
+unfolding writeWith _then_
+write-by-room (refuses e) after start b n m = refl
+write-by-room (gives u) (refuses e) start b n m = refl
+write-by-room (gives u) (gives t) start b n m = refl
 
-module _ (before after : Passed) (start : ℕ) (b : Bool) (n m : ℕ) where
-  pub write-by-room : writeWith before after start b n m ≡ ((before then λ _. writeIn start b n m) then λ total. after then λ _. gives total)
-  unfolding writeWith
-  write-by-room = room-first before (writeIn start b n m) _
-
-  pub reserve-by-room : reserveWith before after start b n m ≡ ((before then λ _. writeIn start b n m) then λ total. limited n total then λ _. after then λ _. gives total)
-  unfolding reserveWith
-  reserve-by-room = room-first before (writeIn start b n m) _
+pub reserve-by-room : (before after : Passed) (start : ℕ) (b : Bool) (n m : ℕ)
+    → reserveWith before after start b n m ≡ ((before then λ _. writeIn start b n m) then λ total. limited n total then λ _. after then λ _. gives total)
+unfolding reserveWith _then_
+reserve-by-room (refuses e) after start b n m = refl
+reserve-by-room (gives u) (refuses e) start b n m = refl
+reserve-by-room (gives u) (gives t) start b n m = refl
 
 -- ---- what a write and a reservation passed
 
@@ -86,40 +86,38 @@ pub record Writes (before after : Passed) (start : ℕ) (b : Bool) (n m total : 
   pub fits : total ≤ m
 
 module _ (before after : Passed) (start : ℕ) (b : Bool) (n m total : ℕ) where
+  -- what is asked up to the room, and last
+  passed : (t : ℕ) → (before then λ _. writeIn start b n m) ≡ gives t → (after then λ _. gives t) ≡ gives total → Writes before after start b n m total
+  passed t p q =
+      let w = then-gives before _ t p in
+      let v = then-gives after _ total q in
+      let e = gives-inj t total (v .2) in
+      let i = write-total start b n m t (w .2) in
+      record { before-passed = w .1; after-passed = v .1; is = sym e ∙ i .is; fits = omega (arith, e, i .fits) }
+
+  room-given : Writes before after start b n m total → m ≤ 18446744073709551615 → (before then λ _. writeIn start b n m) ≡ gives total
+  room-given w k = gives-then _ _ tt (w .before-passed) ∙ total-write start b n m total (record { is = w .is; fits = w .fits }) k
+
   pub writes : writeWith before after start b n m ≡ gives total → Writes before after start b n m total
-  unfolding writeWith
   writes p =
-      let c = then-gives before _ total p in
-      let w = then-gives (writeIn start b n m) _ total (c .2) in
-      let v = then-gives after _ total (w .2) in
-      let e = gives-inj (w .0) total (v .2) in
-      let i = write-total start b n m (w .0) (w .1) in
-      record { before-passed = c .1; after-passed = v .1; is = sym e ∙ i .is; fits = omega (arith, e, i .fits) }
+      let w = then-gives (before then λ _. writeIn start b n m) _ total (sym (write-by-room before after start b n m) ∙ p) in
+      passed (w .0) (w .1) (w .2)
 
   pub write-given : Writes before after start b n m total → m ≤ 18446744073709551615 → writeWith before after start b n m ≡ gives total
-  unfolding writeWith
-  write-given w k =
-      gives-then _ _ tt (w .before-passed)
-      ∙ gives-then _ _ total (total-write start b n m total (record { is = w .is; fits = w .fits }) k)
-      ∙ gives-then _ _ tt (w .after-passed)
+  write-given w k = write-by-room before after start b n m ∙ gives-then _ _ total (room-given w k) ∙ gives-then _ _ tt (w .after-passed)
 
   pub reserves : reserveWith before after start b n m ≡ gives total → Writes before after start b n m total × (total ≤ 65542)
-  unfolding reserveWith
   reserves p =
-      let c = then-gives before _ total p in
-      let w = then-gives (writeIn start b n m) _ total (c .2) in
+      let w = then-gives (before then λ _. writeIn start b n m) _ total (sym (reserve-by-room before after start b n m) ∙ p) in
       let s = then-gives (limited n (w .0)) _ total (w .2) in
-      let v = then-gives after _ total (s .2) in
-      let e : w .0 ≡ total = gives-inj (w .0) total (v .2) in
-      let i = write-total start b n m (w .0) (w .1) in
       let g : w .0 ≤ 65542 = ltb-false 65542 (w .0) (refuse-gives _ _ _ _ (s .1) .0) in
-      (record { before-passed = c .1; after-passed = v .1; is = sym e ∙ i .is; fits = omega (arith, e, i .fits) }, omega arith)
+      let e : w .0 ≡ total = gives-inj (w .0) total (then-gives after _ total (s .2) .2) in
+      (passed (w .0) (w .1) (s .2), omega arith)
 
   pub reserve-given : Writes before after start b n m total → m ≤ 18446744073709551615 → total ≤ 65542 → reserveWith before after start b n m ≡ gives total
-  unfolding reserveWith
   reserve-given w k s =
-      gives-then _ _ tt (w .before-passed)
-      ∙ gives-then _ _ total (total-write start b n m total (record { is = w .is; fits = w .fits }) k)
+      reserve-by-room before after start b n m
+      ∙ gives-then _ _ total (room-given w k)
       ∙ gives-then _ _ total (refuse-no _ _ _ (le-ltb 65542 total s))
       ∙ gives-then _ _ tt (w .after-passed)
 
