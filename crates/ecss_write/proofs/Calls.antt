@@ -14,7 +14,7 @@ use Rattle.ecss.specs.Frame.{trailer, closed}
 use Rattle.ecss.specs.Kind.{contentOf}
 use Rattle.ecss_write.specs.Write.{totalFor, Asked, asksAnswer, asked, askedBy, writeWith, bareWith, reserveWith, ownWith, fieldWith, afreshWith, withLength, headedAt}
 use Rattle.ecss_write.specs.declared.packet.Asks.{Asks}
-use Rattle.ecss_write.proofs.Written.{writes, reserves}
+use Rattle.ecss_write.proofs.Written.{write-by-room, reserve-by-room, writes, reserves}
 use Rattle.ecss_write.specs.Writer.{Writer, startBy, askedOf, contentBy, octetsBy, asKind, checkBy, newBy, afreshBy, writeBy, bareBy, ownBy, reserveBy, headBy, headedBy}
 
 -- what an edition hands over: the three checks, and the octets s of its secondary header, which are such where it is not refused
@@ -27,14 +27,14 @@ pub record Hands {H : Type 0} (w : Writer H) (x : H) (a : Asks) (s : List ℕ) :
 
 write-start : (first : Passed) (rest : Unit {0} → Passed) (v : Passed) (i j : ℕ) (b : Bool) (n m : ℕ) → (first ≡ gives tt → i ≡ j)
     → writeWith (first then rest) v i b n m ≡ writeWith (first then rest) v j b n m
-unfolding writeWith _then_
-write-start (refuses e) rest v i j b n m p = refl
+unfolding _then_
+write-start (refuses e) rest v i j b n m p = write-by-room (refuses e) v i b n m ∙ sym (write-by-room (refuses e) v j b n m)
 write-start (gives u) rest v i j b n m p = ap (λ (k : ℕ). writeWith (rest u) v k b n m) (p refl)
 
 reserve-start : (first : Passed) (rest : Unit {0} → Passed) (v : Passed) (i j : ℕ) (b : Bool) (n m : ℕ) → (first ≡ gives tt → i ≡ j)
     → reserveWith (first then rest) v i b n m ≡ reserveWith (first then rest) v j b n m
-unfolding reserveWith _then_
-reserve-start (refuses e) rest v i j b n m p = refl
+unfolding _then_
+reserve-start (refuses e) rest v i j b n m p = reserve-by-room (refuses e) v i b n m ∙ sym (reserve-by-room (refuses e) v j b n m)
 reserve-start (gives u) rest v i j b n m p = ap (λ (k : ℕ). reserveWith (rest u) v k b n m) (p refl)
 
 pub field-start : (first : Passed) (rest : Unit {0} → Passed) (i j : ℕ) (b : Bool) (n : ℕ) (set : Bool) (old : ℕ) → (first ≡ gives tt → i ≡ j)
