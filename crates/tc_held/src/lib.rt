@@ -109,10 +109,3 @@ impl<'a> PusTcReader<'a> {
         tc_compare::eq_reader(self.raw, self.has_checksum, other.raw, other.has_checksum)
     }
 }
-
-// The application data through a reader that lives no longer than the call; a caller needs no proof by hand.
-pub fn data_through_reader(slice: &[u8], has_checksum: bool) -> &[u8]
-    ensures { λ r. ⌜ now r ≡ appData (now (slice .entry)) «has_checksum» ⌝ }
-{
-    PusTcReader::new_no_checksum_verification(slice, has_checksum).app_data()
-}
