@@ -1,4 +1,4 @@
--- What a reader holds, read anew, is read as the octets that it was made from: the calls on a reader say the same as those on the octets.
+-- What a reader holds, read anew, is read as the octets that it was made from: the calls on a reader say what those on octets say.
 use Prim.Native.Nat.{ℕ, _+_, _-_, _*_, _≤_}
 use mathlib.Core.Path.{_≡_, refl, sym, ap, ap₂, _∙_}
 use mathlib.Core.Bool.{Bool, true, false, _&&_}

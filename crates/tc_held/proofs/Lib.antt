@@ -1,2 +1,3 @@
 pub mod Anew
 pub mod Reader
+pub mod OneReader

@@ -1,4 +1,4 @@
--- `PusTcReader::eq_creator` meets its contract: a walk of its MIR, by hand. The reader is taken apart, and `tc_compare::eq_creator` is called.
+-- `PusTcReader::eq_creator` meets its contract: a walk of its MIR, by hand. `tc_compare::eq_creator` is called on what it holds.
 -- All that the proof knows of the call is that it meets its contract.
 use mathlib.Core.Path.{_≡_, refl}
 use Prim.Native.Nat.{ℕ}

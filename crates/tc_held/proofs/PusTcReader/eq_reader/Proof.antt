@@ -1,4 +1,4 @@
--- `PusTcReader::eq_reader` meets its contract: a walk of its MIR, by hand. Both readers, at two lifetimes, are taken apart, and `tc_compare::eq_reader` is called.
+-- `PusTcReader::eq_reader` meets its contract: a walk of its MIR, by hand. `tc_compare::eq_reader` is called on what both hold.
 -- All that the proof knows of the call is that it meets its contract.
 use mathlib.Core.Path.{_≡_, refl}
 use mathlib.Core.Bool.{Bool}

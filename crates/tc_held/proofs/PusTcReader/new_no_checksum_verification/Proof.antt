@@ -1,5 +1,6 @@
--- `PusTcReader::new_no_checksum_verification` meets its contract: a walk of its MIR, by hand. Three calls read the octets, and a fourth makes the reader of what they return.
--- All that the proof knows of the calls is that each meets its contract. A machine value that one returns is stored and passed on as it is.
+-- `PusTcReader::new_no_checksum_verification` meets its contract: a walk of its MIR, by hand. Three calls read the octets, and a
+-- fourth makes the reader of what they return. Of the calls the proof knows that each meets its contract. A machine value that one
+-- returns is stored and passed on as it is.
 use mathlib.Core.Path.{_≡_, refl, ap, _∙_}
 use Prim.Native.Nat.{ℕ}
 use mathlib.Core.Bool.{Bool}

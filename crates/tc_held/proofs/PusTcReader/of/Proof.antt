@@ -1,4 +1,4 @@
--- `PusTcReader::of` meets its contract: a walk of its MIR, by hand. A reader is made of the slice and the three values passed, in the result's local.
+-- `PusTcReader::of` meets its contract: a walk of its MIR, by hand. The reader is made of what is passed, in the result's local.
 -- A `&[u8]` is Copy, so what it owns is had twice: once for the slice at exit, and once inside the result.
 use mathlib.Core.Path.{refl}
 use Prim.Native.Nat.{ℕ}
