@@ -41,6 +41,10 @@ verified s stored = refuseIf (not (verifies s)) (refusal 4 (stored ∷ [])) (giv
 abbrev pub statedOf : List ℕ → ℕ
 statedOf s = word s 4 + 7
 
+-- and the largest that its 16 bits can state
+abbrev pub maxTotal : ℕ
+maxTotal = 65542
+
 -- with a checksum, the total has room for it behind the headers
 abbrev pub checksumFits : ℕ → Bool → ℕ → Answer ℕ
 checksumFits start true n = refuseIf (ltb n (start + 2)) (refusal 2 ((n - 2) ∷ start ∷ [])) (gives n)

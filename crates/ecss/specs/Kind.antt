@@ -11,7 +11,7 @@ use Rattle.space_packet.specs.Fields.{typeNumber}
 use Rattle.space_packet.specs.Header.{headerOctets, readHeader, packetLen, InRange}
 use Rattle.space_packet.specs.declared.SpacePacketHeader.{SpacePacketHeader}
 use Rattle.space_packet.specs.declared.PacketType.{PacketType}
-use Rattle.ecss.specs.Frame.{Octets, trailer, sealed, checkedOf}
+use Rattle.ecss.specs.Frame.{Octets, trailer, sealed, maxTotal, checkedOf}
 
 -- ---- the strict checks that every kind shares
 
@@ -91,7 +91,7 @@ pub record Stated {H : Type 0} (k : Kind H) (b : Bool) (p : Packet H) : Type 0 w
 -- the written rules: so with a checksum, in a total that a length field states, and as the strict checks ask it
 pub record Rules {H : Type 0} (k : Kind H) (p : Packet H) : Type 0 where
   pub stated : Stated k true p
-  pub at-most : startOf k + length (p .user) + 2 ≤ 65542
+  pub at-most : startOf k + length (p .user) + 2 ≤ maxTotal
   pub primary : Primary (k .type) (p .primary)
 
 -- the octets s begin with the packet p under these rules: both headers, the data, and the checksum over all of them

@@ -11,7 +11,7 @@ use Rattle.space_packet.specs.Answer.{Answer, Passed, Kept, refusal, gives, ref
 use Rattle.space_packet.specs.Header.{headerCheck, headerOf, idFrom, withId}
 use Rattle.space_packet.specs.declared.SpacePacketHeader.{SpacePacketHeader}
 use Rattle.space_packet.specs.declared.PacketType.{PacketType}
-use Rattle.ecss.specs.Frame.{trailer}
+use Rattle.ecss.specs.Frame.{trailer, maxTotal}
 use Rattle.ecss_write.specs.declared.packet.Asks.{Asks}
 use Rattle.ecss_write.specs.declared.packet.CrcResult.{CrcResult}
 use Rattle.ecss_write.specs.declared.packet.CrcResult.the-variants as C
@@ -27,9 +27,9 @@ unfoldable pub machineTotal : ℕ → Bool → ℕ → Answer ℕ
 machineTotal start b n =
     refuseIf (ltb 18446744073709551615 (totalFor start b n)) (refusal 6 (n ∷ [])) (gives (totalFor start b n))
 
--- and for a length field that is set, where it is above 65,542, the largest total that the field states
+-- and for a length field that is set, where it is above the largest total that the field states
 abbrev pub limited : ℕ → ℕ → Answer ℕ
-limited n total = refuseIf (ltb 65542 total) (refusal 6 (n ∷ [])) (gives total)
+limited n total = refuseIf (ltb maxTotal total) (refusal 6 (n ∷ [])) (gives total)
 
 -- CCSDS 133.0-B-2, 4.1.3.5, packet data length: the field of that total, which for a packet is at least 7
 unfoldable pub lengthField : ℕ → Bool → ℕ → Answer ℕ

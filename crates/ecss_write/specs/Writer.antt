@@ -8,7 +8,7 @@ use lib.ListN.{length}
 use Rattle.space_packet.specs.Answer.{Answer, Passed, Kept, gives}
 use Rattle.space_packet.specs.Header.{InRange}
 use Rattle.space_packet.specs.declared.SpacePacketHeader.{SpacePacketHeader}
-use Rattle.ecss.specs.Frame.{closed}
+use Rattle.ecss.specs.Frame.{closed, maxTotal}
 use Rattle.ecss.specs.Kind.{Kind, KindLaws, Packet, startOf, contentOf}
 use Rattle.ecss_write.specs.Write.{totalFor, Asked, asked, writeWith, bareWith, reserveWith, ownWith, asType, withLength, headedAt, madeWith, afreshWith}
 
@@ -93,4 +93,4 @@ pub record Handed {H : Type 0} (k : Kind H) (p : Packet H) : Type 0 where
   pub in-range : InRange (p .primary)
   pub version-zero : p .primary .version ≡ 0
   pub fits : k .Fits (p .secondary)
-  pub at-most : startOf k + length (p .user) + 2 ≤ 65542
+  pub at-most : startOf k + length (p .user) + 2 ≤ maxTotal

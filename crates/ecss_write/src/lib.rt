@@ -3,12 +3,12 @@
 ghost use mathlib.Core.Path.{_≡_};
 ghost use mathlib.Core.Bool.{true};
 ghost use mathlib.Core.List.{_++_};
-ghost use Prim.Native.Nat.{_+_, _≤_};
+ghost use Prim.Native.Nat.{_+_, _-_, _≤_};
 ghost use lib.ListN.{length, take, drop};
-ghost use Rattle.space_packet.specs.Answer.{sizeAnswer, inBuffer};
+ghost use Rattle.space_packet.specs.Answer.{_then_, sizeAnswer, inBuffer};
 ghost use Rattle.space_packet.specs.Wrote.{Wrote};
-ghost use Rattle.ecss.specs.Frame.{sealed};
-ghost use Rattle.ecss_write.specs.Write.{machineTotal, lengthField, dataLenAnswer, writeIn};
+ghost use Rattle.ecss.specs.Frame.{sealed, maxTotal};
+ghost use Rattle.ecss_write.specs.Write.{machineTotal, limited, lengthField, dataLenAnswer, writeIn};
 use ecss::frame;
 use space_packet::ByteConversionError;
 use space_packet::PusError;
@@ -39,23 +39,40 @@ pub enum DataLenResult {
 // The largest total that a length field states.
 pub const MAX_TOTAL: usize = 65542;
 
+// 6 where a total of some octets of data is above that.
+pub(crate) fn within_limit(data_len: usize, passed: SizeResult) -> SizeResult
+    ensures { λ r. ⌜ sizeAnswer r ≡ (sizeAnswer passed then limited «data_len») ⌝ }
+{
+    match passed {
+        SizeResult::Err(e) => SizeResult::Err(e),
+        SizeResult::Ok(total) => {
+            if MAX_TOTAL < total {
+                return SizeResult::Err(PusError::PacketTooLong(data_len));
+            }
+            SizeResult::Ok(total)
+        }
+    }
+}
+
+// The length field of a total; no field states fewer octets than 7.
+pub(crate) fn field_of(total: usize) -> u16
+    requires { ⌜ total ≤ maxTotal ⌝ }
+    ensures { λ r. ⌜ r ≡ total - 7 ⌝ }
+{
+    if total < 7 {
+        return 0;
+    }
+    (total - 7) as u16
+}
+
 // The length field of some octets of data; 6 where the total is above 65,542.
 pub fn data_len_field(start: usize, data_len: usize, has_checksum: bool) -> DataLenResult
     ensures { λ r. ⌜ dataLenAnswer r ≡ lengthField start «has_checksum» «data_len» ⌝ }
 {
-    let t = total_of(start, data_len, has_checksum);
+    let t = within_limit(data_len, total_of(start, data_len, has_checksum));
     match t {
         SizeResult::Err(e) => DataLenResult::Err(e),
-        SizeResult::Ok(total) => {
-            if MAX_TOTAL < total {
-                return DataLenResult::Err(PusError::PacketTooLong(data_len));
-            }
-            // No field states fewer octets than 7.
-            if total < 7 {
-                return DataLenResult::Ok(0);
-            }
-            DataLenResult::Ok((total - 7) as u16)
-        }
+        SizeResult::Ok(total) => DataLenResult::Ok(field_of(total)),
     }
 }
 

@@ -69,14 +69,19 @@ fn room_asked(
     }
 }
 
-// What is asked last of a packet of `total` octets.
-fn asked_last(asks: Asks, total: usize) -> SizeResult
-    ensures { λ r. ⌜ sizeAnswer r ≡ (checkAnswer (asks .version) then λ _. gives total) ⌝ }
+// What is asked last, of a total that passed all before.
+fn asked_last(asks: Asks, passed: SizeResult) -> SizeResult
+    ensures { λ r. ⌜ sizeAnswer r ≡ (sizeAnswer passed then λ total. checkAnswer (asks .version) then λ _. gives total) ⌝ }
 {
-    let last = asks.version;
-    match last {
-        CheckResult::Err(e) => SizeResult::Err(e),
-        CheckResult::Ok => SizeResult::Ok(total),
+    match passed {
+        SizeResult::Err(e) => SizeResult::Err(e),
+        SizeResult::Ok(total) => {
+            let last = asks.version;
+            match last {
+                CheckResult::Err(e) => SizeResult::Err(e),
+                CheckResult::Ok => SizeResult::Ok(total),
+            }
+        }
     }
 }
 
@@ -91,11 +96,10 @@ fn check_write(
 ) -> SizeResult
     ensures { λ r. ⌜ sizeAnswer r ≡ writeWith (askedBy asks h) (checkAnswer (asks .version)) start «has_checksum» «data_len» found ⌝ }
 {
-    let room = room_asked(asks, h, start, data_len, has_checksum, found);
-    match room {
-        SizeResult::Err(e) => SizeResult::Err(e),
-        SizeResult::Ok(total) => asked_last(asks, total),
-    }
+    asked_last(
+        asks,
+        room_asked(asks, h, start, data_len, has_checksum, found),
+    )
 }
 
 // What reserving refuses, in its order; the answer is the total.
@@ -110,15 +114,7 @@ fn check_reserve(
     ensures { λ r. ⌜ sizeAnswer r ≡ reserveWith (askedBy asks h) (checkAnswer (asks .version)) start «has_checksum» «data_len» found ⌝ }
 {
     let room = room_asked(asks, h, start, data_len, has_checksum, found);
-    match room {
-        SizeResult::Err(e) => SizeResult::Err(e),
-        SizeResult::Ok(total) => {
-            if crate::MAX_TOTAL < total {
-                return SizeResult::Err(PusError::PacketTooLong(data_len));
-            }
-            asked_last(asks, total)
-        }
-    }
+    asked_last(asks, crate::within_limit(data_len, room))
 }
 
 // ---- the header
@@ -280,17 +276,6 @@ pub fn own_checksum(asks: Asks, h: SpHeader, sec: &[u8], data: &[u8]) -> CrcResu
     }
 }
 
-// The length field of a total; no field states fewer octets than 7.
-fn field_of(total: usize) -> u16
-    requires { ⌜ total ≤ 65542 ⌝ }
-    ensures { λ r. ⌜ r ≡ total - 7 ⌝ }
-{
-    if total < 7 {
-        return 0;
-    }
-    (total - 7) as u16
-}
-
 // The headers of a packet with that many octets of data, with its length; the answer is the total.
 pub fn reserve(
     asks: Asks,
@@ -307,7 +292,7 @@ pub fn reserve(
     match total {
         SizeResult::Err(e) => SizeResult::Err(e),
         SizeResult::Ok(n) => {
-            put_head(with_length(h, field_of(n)), sec, buf);
+            put_head(with_length(h, crate::field_of(n)), sec, buf);
             SizeResult::Ok(n)
         }
     }

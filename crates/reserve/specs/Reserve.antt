@@ -5,7 +5,7 @@ use mathlib.Core.List.{List, [], _++_}
 use lib.ListN.{take, drop}
 use lib.Dec.{ltb, eqb}
 use Rattle.space_packet.specs.Answer.{Answer, Passed, refusal, gives, refuses, refuseIf, _then_, numbersOf, inBuffer}
-use Rattle.ecss.specs.Frame.{trailer, closed}
+use Rattle.ecss.specs.Frame.{trailer, closed, maxTotal}
 use Rattle.reserve.specs.declared.Reservation.{Reservation}
 use Rattle.reserve.specs.declared.Bounds.{Bounds}
 use Rattle.reserve.specs.declared.BoundsResult.{BoundsResult}
@@ -20,7 +20,7 @@ unfoldable pub holds : ℕ → Reservation → Passed
 holds start r =
     refuseIf (not (eqb (r .start) start)) (refusal 8 [])
     (refuseIf (ltb (r .total) (start + trailer (r .«has_checksum»))) (refusal 8 [])
-    (refuseIf (ltb 65542 (r .total)) (refusal 8 []) (gives tt)))
+    (refuseIf (ltb maxTotal (r .total)) (refusal 8 []) (gives tt)))
 
 -- 8, then 1 for a buffer of m octets that has no room
 unfoldable pub holdsIn : ℕ → Reservation → ℕ → Passed

@@ -1,10 +1,16 @@
--- `packet::asked_last` meets its contract: a version that is refused is the answer, and one that passes gives the total.
-use mathlib.Core.Path.{sym, ap}
-use Rattle.space_packet.specs.Answer.{checkAnswer}
+-- `packet::asked_last` meets its contract: what was refused before, then a version that is refused, and otherwise the total.
+use mathlib.Core.Path.{sym, ap, _∙_}
+use Rattle.space_packet.specs.Answer.{checkAnswer, sizeAnswer}
 use Rattle.space_packet.proofs.Answers.{gives-then, refuses-then}
 use borrow.Author.Needs.{needs}
 use Rattle.ecss_write.proofs.packet.asked_last.Statement.{statement}
 use Rattle.ecss_write.proofs.packet.asked_last.Tie as tie
+
+enum-known-passed : tie.Need-enum-known-passed
+enum-known-passed c = search needs
+
+enum-known-passed-2 : tie.Need-enum-known-passed-2
+enum-known-passed-2 c = search needs
 
 enum-known-last : tie.Need-enum-known-last
 enum-known-last c = search needs
@@ -13,10 +19,15 @@ enum-told : tie.Need-enum-told
 enum-told c = search needs
 
 returns : tie.Need-returns
-returns c = sym (refuses-then _ _ _ (ap checkAnswer (c .before .last .given .1)))
+returns c = sym (refuses-then _ _ _ (ap sizeAnswer (c .before .passed .given .1)))
 
 returns-2 : tie.Need-returns-2
-returns-2 c = sym (gives-then _ _ _ (ap checkAnswer (c .enum-told .given .1)))
+returns-2 c = sym (gives-then _ _ _ (ap sizeAnswer (c .before .before .before .before .passed2 .given .1)) ∙ refuses-then _ _ _ (ap checkAnswer (c .before .last .given .1)))
+
+returns-3 : tie.Need-returns-3
+returns-3 c = sym (gives-then _ _ _ (ap sizeAnswer (c .before .before .before .passed2 .given .1)) ∙ gives-then _ _ _ (ap checkAnswer (c .enum-told .given .1)))
 
 pub asked-last-spec : {M : Type 1} → statement M
-asked-last-spec = tie.close (tie.spec enum-known-last enum-told returns returns-2)
+asked-last-spec =
+    tie.close
+    (tie.spec enum-known-passed enum-known-passed-2 enum-known-last enum-told returns returns-2 returns-3)
