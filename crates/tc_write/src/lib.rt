@@ -4,9 +4,11 @@ ghost use mathlib.Core.Path.{_≡_};
 ghost use mathlib.Core.Bool.{true};
 ghost use lib.Dec.{eqb};
 ghost use lib.ListN.{length};
+ghost use Rattle.space_packet.specs.Bits.{pick};
 ghost use Rattle.space_packet.specs.Answer.{setIf, checkAnswer, sizeAnswer};
 ghost use Rattle.space_packet.specs.Fields.{apidCheck, countCheck, idWithApid, typeNumber, idRaw, pscRaw};
 ghost use Rattle.space_packet.specs.Header.{packetLen, withId, withPsc, pscFrom, idFrom, headerCheck, headerKept};
+ghost use Rattle.space_packet.specs.Wrote.{Wrote};
 ghost use Rattle.space_packet.specs.declared.PacketType.the-variants.{Tc};
 ghost use Rattle.ecss.specs.Kind.{startOf};
 ghost use Rattle.ecss.specs.Version.{messageType};
@@ -15,7 +17,7 @@ ghost use Rattle.ecss_write.specs.Write.{machineTotal, crcAnswer, asksAnswer};
 ghost use Rattle.ecss_write.specs.Writer.{askedOf};
 ghost use Rattle.tc_header.specs.Header.{ackCheck, ackOf, secFrom, pusC};
 ghost use Rattle.tc_write.specs.Command.{commandC};
-ghost use Rattle.tc_write.specs.Creator.{creatorOf, newOf, creatorAnswer, keptBy, creatorKept, withHeader, withSec, updated, ownChecksum, checksumOf, checksumAnswer, PacketWrote, ContentWrote, sameCreator};
+ghost use Rattle.tc_write.specs.Creator.{creatorOf, newOf, creatorAnswer, keptBy, creatorKept, withHeader, withSec, updated, ownChecksum, checksumOf, checksumAnswer, contentFor, octetsFor, writeOf, bareOf, PacketWrote, ContentWrote, sameCreator};
 ghost use Rattle.tc_write.specs.Builder.{builderOf, defaultBuilder, builderKept};
 use ecss::Crc16;
 use ecss::CreatorConfig;
@@ -478,7 +480,7 @@ impl PusTcCreator {
     pub fn write_to_slice(self, app_data: &[u8], buf: &mut [u8]) -> SizeResult
         ensures { λ r. ⌜ PacketWrote self (now («app_data» .entry)) (now (buf .entry)) r (now (buf .exit)) ⌝ }
     {
-        self.write(app_data, buf)
+        self.put(app_data, false, buf)
     }
 
     pub fn write_to_slice_crc_no_table(self, app_data: &[u8], buf: &mut [u8]) -> SizeResult
@@ -491,33 +493,23 @@ impl PusTcCreator {
     pub fn write_to_slice_no_crc(self, app_data: &[u8], buf: &mut [u8]) -> SizeResult
         ensures { λ r. ⌜ ContentWrote self (now («app_data» .entry)) (now (buf .entry)) r (now (buf .exit)) ⌝ }
     {
-        let x = self.sec_header;
-        let mut sec = [0u8; PusTcSecondaryHeader::HEADER_LEN];
-        x.write_to_slice(&mut sec);
-        packet::write_bare(
-            asks(x),
-            self.sp_header,
-            &sec,
-            app_data,
-            self.has_checksum,
-            buf,
-        )
+        self.put(app_data, true, buf)
     }
 
-    fn write(self, app_data: &[u8], buf: &mut [u8]) -> SizeResult
-        ensures { λ r. ⌜ PacketWrote self (now («app_data» .entry)) (now (buf .entry)) r (now (buf .exit)) ⌝ }
+    // Both writes: the secondary header is encoded, and the rest is the same for every kind.
+    fn put(self, app_data: &[u8], bare: bool, buf: &mut [u8]) -> SizeResult
+        ensures { λ r. ⌜ Wrote (pick «bare» bareOf writeOf self (length (now («app_data» .entry))) (length (now (buf .entry)))) (pick «bare» contentFor octetsFor self (now («app_data» .entry))) (now (buf .entry)) r (now (buf .exit)) ⌝ }
     {
         let x = self.sec_header;
+        let h = self.sp_header;
+        let has_checksum = self.has_checksum;
         let mut sec = [0u8; PusTcSecondaryHeader::HEADER_LEN];
         x.write_to_slice(&mut sec);
-        packet::write(
-            asks(x),
-            self.sp_header,
-            &sec,
-            app_data,
-            self.has_checksum,
-            buf,
-        )
+        let asked = asks(x);
+        if bare {
+            return packet::write_bare(asked, h, &sec, app_data, has_checksum, buf);
+        }
+        packet::write(asked, h, &sec, app_data, has_checksum, buf)
     }
 
     // The names of the trait WritablePusPacket.
