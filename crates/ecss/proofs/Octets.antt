@@ -2,25 +2,20 @@
 use Prim.Native.Nat.{ℕ, suc, _≤_, _<_}
 use mathlib.Core.Path.{_≡_, refl, sym, ap, ap₂, _∙_}
 use mathlib.Core.Logic.{_↔_}
-use mathlib.Core.Bool.{Bool, true, false, _&&_}
+use mathlib.Core.Bool.{Bool, true, false, false≢true, _&&_, and-eq-true-iff}
 use mathlib.Core.List.{List, [], _∷_}
-use native.Mathlib.Omega.{arith}
 use lib.ListN.{length, getD, drop, drop-of-length-le}
 use lib.Seq.{drop-cons}
 use lib.Dec.{eqb}
 use borrow.Author.Tests.{eq-eqb, ne-eqb, eqb-true}
 use Rattle.ecss.specs.Frame.{sameOctets}
 
-and-true : (a b : Bool) → a && b ≡ true → (a ≡ true) × (b ≡ true)
-and-true true b p = (refl, p)
-and-true false b p = absurd (let z : _≡_ {A = ℕ} 0 1 = cc in omega arith)
-
 same-equal : (s t : List ℕ) → sameOctets s t ≡ true → s ≡ t
 unfolding sameOctets
 same-equal [] [] p = refl
-same-equal [] (y ∷ t) p = absurd (let z : _≡_ {A = ℕ} 0 1 = cc in omega arith)
-same-equal (x ∷ s) [] p = absurd (let z : _≡_ {A = ℕ} 0 1 = cc in omega arith)
-same-equal (x ∷ s) (y ∷ t) p = let q = and-true (eqb x y) (sameOctets s t) p in ap₂ _∷_ (eqb-true x y (q .0)) (same-equal s t (q .1))
+same-equal [] (y ∷ t) p = absurd (false≢true p)
+same-equal (x ∷ s) [] p = absurd (false≢true p)
+same-equal (x ∷ s) (y ∷ t) p = let q = and-eq-true-iff (eqb x y) (sameOctets s t) .0 p in ap₂ _∷_ (eqb-true x y (q .0)) (same-equal s t (q .1))
 
 same-refl : (s : List ℕ) → sameOctets s s ≡ true
 unfolding sameOctets

@@ -1,9 +1,8 @@
 -- Headers are the same, by the call, where they are equal and only there.
 use mathlib.Core.Path.{_≡_, refl, sym, ap, _∙_}
-use mathlib.Core.Bool.{Bool, true, false, _&&_}
+use mathlib.Core.Bool.{true, _&&_, and-eq-true-iff}
 use mathlib.Core.Logic.{_↔_}
 use Prim.Native.Nat.{ℕ}
-use native.Mathlib.Omega.{arith}
 use lib.Dec.{eqb}
 use borrow.Author.Tests.{eqb-true, eq-eqb}
 use Rattle.space_packet.specs.Bits.{flagNumber, lowest}
@@ -12,10 +11,6 @@ use Rattle.space_packet.specs.Header.{sameHeader}
 use Rattle.space_packet.specs.declared.SpacePacketHeader.{SpacePacketHeader}
 use Rattle.space_packet.proofs.Answers.{by-inverse}
 use Rattle.space_packet.proofs.Numbers.{type-back, flag-back, flags-back}
-
-and-both : (a b : Bool) → (a && b) ≡ true → (a ≡ true) × (b ≡ true)
-and-both true b p = (refl, p)
-and-both false b p = let z : _≡_ {A = ℕ} 0 1 = cc in absurd (omega arith)
 
 equal-fields : (g h : SpacePacketHeader) → sameHeader g h ≡ true → g ≡ h
 unfolding sameHeader
@@ -26,12 +21,12 @@ equal-fields g h p =
     let s = eqb (flagsNumber (g .psc .«seq_flags»)) (flagsNumber (h .psc .«seq_flags»)) in
     let n = eqb (g .psc .«seq_count» .0) (h .psc .«seq_count» .0) in
     let v = eqb (g .version) (h .version) in
-    let pd = and-both (v && t && f && a && s && n) (eqb (g .«data_len») (h .«data_len»)) p in
-    let pn = and-both (v && t && f && a && s) n (pd .0) in
-    let ps = and-both (v && t && f && a) s (pn .0) in
-    let pa = and-both (v && t && f) a (ps .0) in
-    let pf = and-both (v && t) f (pa .0) in
-    let pt = and-both v t (pf .0) in
+    let pd = and-eq-true-iff (v && t && f && a && s && n) (eqb (g .«data_len») (h .«data_len»)) .0 p in
+    let pn = and-eq-true-iff (v && t && f && a && s) n .0 (pd .0) in
+    let ps = and-eq-true-iff (v && t && f && a) s .0 (pn .0) in
+    let pa = and-eq-true-iff (v && t && f) a .0 (ps .0) in
+    let pf = and-eq-true-iff (v && t) f .0 (pa .0) in
+    let pt = and-eq-true-iff v t .0 (pf .0) in
     let ev : g .version ≡ h .version = eqb-true _ _ (pt .0) in
     let et = by-inverse typeNumber typeOf type-back _ _ (eqb-true _ _ (pt .1)) in
     let ef = by-inverse flagNumber lowest flag-back _ _ (eqb-true _ _ (pf .1)) in
@@ -41,7 +36,8 @@ equal-fields g h p =
     let ed : g .«data_len» ≡ h .«data_len» = eqb-true _ _ (pd .1) in
     λ i. record { version = ev i; «packet_id» = record { «packet_type» = et i; «sec_header_flag» = ef i; apid = record { 0 = ea i } }; psc = record { «seq_flags» = es i; «seq_count» = record { 0 = en i } }; «data_len» = ed i }
 
-itself : (n : ℕ) → eqb n n ≡ true
+-- a number is its own equal, by the test that comparisons make
+pub itself : (n : ℕ) → eqb n n ≡ true
 itself n = eq-eqb n n refl
 
 same-itself : (h : SpacePacketHeader) → sameHeader h h ≡ true

@@ -2,9 +2,8 @@
 use Prim.Native.Nat.{ℕ}
 use mathlib.Core.Path.{_≡_, refl, ap, ap₂, _∙_}
 use mathlib.Core.Logic.{_↔_}
-use mathlib.Core.Bool.{Bool, true, false, _&&_}
+use mathlib.Core.Bool.{Bool, true, false≢true, _&&_, and-eq-true-iff}
 use mathlib.Core.List.{List}
-use native.Mathlib.Omega.{arith}
 use Rattle.space_packet.specs.Answer.{Answer, gives, refuses}
 use Rattle.space_packet.specs.Header.{sameHeader}
 use Rattle.space_packet.proofs.Same.{same-header}
@@ -24,13 +23,6 @@ pub creator-compared : (a : Answer PusTcRecord) (user : List ℕ) (t : PusTcCrea
 creator-compared a user t d r h x p q s =
     ap (λ (z : Answer PusTcRecord). reportsCreator z user t d) p ∙ ap₂ (λ (y z : Bool). y && (z && sameOctets user d)) q s
 
-no-yes : false ≡ true → ⊥
-no-yes e = let z : _≡_ {A = ℕ} 0 1 = cc in omega arith
-
-and-true : (a b : Bool) → a && b ≡ true → (a ≡ true) × (b ≡ true)
-and-true true b p = (refl, p)
-and-true false b p = absurd (no-yes p)
-
 -- what a reader that equals a creator read
 pub record ReadAsCreator (a : Answer PusTcRecord) (user : List ℕ) (t : PusTcCreator) (d : List ℕ) : Type 0 where
   pub reported : PusTcRecord
@@ -40,10 +32,10 @@ pub record ReadAsCreator (a : Answer PusTcRecord) (user : List ℕ) (t : PusTcCr
   pub data-equal : user ≡ d
 
 says-creator : (a : Answer PusTcRecord) (user : List ℕ) (t : PusTcCreator) (d : List ℕ) → reportsCreator a user t d ≡ true → ReadAsCreator a user t d
-says-creator (refuses e) user t d p = absurd (no-yes p)
+says-creator (refuses e) user t d p = absurd (false≢true p)
 says-creator (gives r) user t d p =
-    let h = and-true (sameHeader (r .«sp_header») (t .«sp_header»)) _ p in
-    let x = and-true (sameSec (r .«sec_header») (t .«sec_header»)) _ (h .1) in
+    let h = and-eq-true-iff (sameHeader (r .«sp_header») (t .«sp_header»)) _ .0 p in
+    let x = and-eq-true-iff (sameSec (r .«sec_header») (t .«sec_header»)) _ .0 (h .1) in
     record {
       reported = r;
       is-read = refl;
@@ -61,7 +53,7 @@ equals-creator s b t d = (
 )
 
 is-read : (a : Answer PusTcRecord) → (isRead a ≡ true) ↔ ((r : PusTcRecord) × (a ≡ gives r))
-is-read (refuses e) = (λ p. absurd (no-yes p), λ k. ap isRead (k .1))
+is-read (refuses e) = (λ p. absurd (false≢true p), λ k. ap isRead (k .1))
 is-read (gives r) = (λ p. (r, refl), λ k. refl)
 
 -- what two readers that are equal read
@@ -74,8 +66,8 @@ pub record ReadAlike (s : List ℕ) (b : Bool) (t : List ℕ) (c : Bool) : Type 
 pub equals-reader : (s : List ℕ) (b : Bool) (t : List ℕ) (c : Bool) → (equalsReader s b t c ≡ true) ↔ ReadAlike s b t c
 equals-reader s b t c = (
   λ p.
-      let h = and-true (isRead (readOf s b)) _ p in
-      let k = and-true (isRead (readOf t c)) _ (h .1) in
+      let h = and-eq-true-iff (isRead (readOf s b)) _ .0 p in
+      let k = and-eq-true-iff (isRead (readOf t c)) _ .0 (h .1) in
       record { one = is-read _ .0 (h .0); other = is-read _ .0 (k .0); octets-equal = same-octets _ _ .0 (k .1) },
   λ k.
       ap₂ (λ (x y : Bool). x && (y && sameOctets (rawData s b) (rawData t c))) (is-read (readOf s b) .1 (k .one)) (is-read (readOf t c) .1 (k .other))

@@ -1,10 +1,11 @@
 -- Secondary headers are the same, by the call, where they are equal and only there.
-use mathlib.Core.Path.{_≡_, refl, sym, ap, _∙_}
+use mathlib.Core.Path.{_≡_, sym, ap, _∙_}
 use mathlib.Core.Bool.{Bool, true, _&&_, and-eq-true-iff}
 use mathlib.Core.Logic.{_↔_}
 use Prim.Native.Nat.{ℕ}
 use lib.Dec.{eqb}
-use borrow.Author.Tests.{eqb-true, eq-eqb}
+use borrow.Author.Tests.{eqb-true}
+use Rattle.space_packet.proofs.Same.{itself}
 use Rattle.tc_header.specs.Header.{sameSec}
 use Rattle.tc_header.specs.declared.PusTcSecondaryHeader.{PusTcSecondaryHeader}
 use Rattle.tc_header.proofs.Checks.{version-inj}
@@ -22,9 +23,6 @@ equal-fields x y p =
     let a = first-same _ _ _ (s .1) in
     let v = version-inj _ _ (eqb-true _ _ (a .1)) in
     λ i. record { «message_type_id» = record { «type_id» = t .0 i; «subtype_id» = u .0 i }; «source_id» = s .0 i; «ack_flags» = record { 0 = a .0 i }; version = v i }
-
-itself : (n : ℕ) → eqb n n ≡ true
-itself n = eq-eqb n n refl
 
 same-itself : (x : PusTcSecondaryHeader) → sameSec x x ≡ true
 unfolding sameSec
