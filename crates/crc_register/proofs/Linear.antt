@@ -104,12 +104,12 @@ crcOf-⊕ s e h = ap (λ (r : ℕ). crcFrom r (addOctets s e)) (sym (⊕-zero 65
 
 -- ---- a loop over the octets
 
--- the octets from i on make t of the register r: what a loop keeps
-pub record Kept (s : List ℕ) (t i r : ℕ) : Type 0 where
+-- the octets from i on still make t of the register r: what a loop keeps
+pub record StillMakes (s : List ℕ) (t i r : ℕ) : Type 0 where
   pub kept : crcFrom r (drop i s) ≡ t
 
 -- one turn: the register takes in the octet at i
-pub turn : {s : List ℕ} {t i r q : ℕ} → Kept s t i r → i < length s → q ≡ run r (octetBits (getD s i 0)) → Kept s t (i + 1) q
+pub turn : {s : List ℕ} {t i r q : ℕ} → StillMakes s t i r → i < length s → q ≡ run r (octetBits (getD s i 0)) → StillMakes s t (i + 1) q
 turn {s} {t} {i} {r} k h e =
     record {
       kept =
@@ -120,5 +120,5 @@ turn {s} {t} {i} {r} k h e =
     }
 
 -- the end: no octet is left
-pub end : {s : List ℕ} {t i r : ℕ} → Kept s t i r → length s ≤ i → r ≡ t
+pub end : {s : List ℕ} {t i r : ℕ} → StillMakes s t i r → length s ≤ i → r ≡ t
 end {s} {r = r} k h = sym (crcFrom-nil r) ∙ ap (crcFrom r) (sym (drop-of-length-le s h)) ∙ k .kept

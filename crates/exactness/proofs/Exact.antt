@@ -21,13 +21,13 @@ use Rattle.ecss.proofs.Pieces.{primary-is, states, secondary-octets, secondary-
 
 -- ---- what an accepting verdict says
 
-pub record Accepted {H : Type 0} (k : Kind H) (s : List ℕ) (p : Packet H) : Type 0 where
+pub record AcceptedAs {H : Type 0} (k : Kind H) (s : List ℕ) (p : Packet H) : Type 0 where
   pub frame : FrameIs (startOf k) s true (statedOf s)
   pub verifies : crcOf (take (statedOf s) s) ≡ 0
   pub passes : strictRule k (readHeader s) (secondaryOf (k .size) s) ≡ gives tt
   pub read : p ≡ readAs k s (statedOf s)
 
-pub accepted : {H : Type 0} (k : Kind H) (s : List ℕ) (p : Packet H) → judge k s ≡ gives p → Accepted k s p
+pub accepted : {H : Type 0} (k : Kind H) (s : List ℕ) (p : Packet H) → judge k s ≡ gives p → AcceptedAs k s p
 unfolding judge
 accepted k s p h =
     let a = then-gives (checkedOf (startOf k) s) (ruled k s) p h in
@@ -105,7 +105,7 @@ unique k l s p q b c =
 
 -- ---- what is accepted is a packet under the rules
 
-module _ {H : Type 0} (k : Kind H) (l : KindLaws k) (s : List ℕ) (p : Packet H) (o : Octets s) (a : Accepted k s p) where
+module _ {H : Type 0} (k : Kind H) (l : KindLaws k) (s : List ℕ) (p : Packet H) (o : Octets s) (a : AcceptedAs k s p) where
   taken : Taken k (secondaryOf (k .size) s)
   taken =
       let r = strict-says k (readHeader s) (secondaryOf (k .size) s) (a .passes) in

@@ -6,16 +6,16 @@ use native.Mathlib.Omega.{arith}
 use lib.ListN.{length, take, drop, length-append}
 use lib.Seq.{length-take-le, take-append-seam, take-all}
 use Rattle.io.specs.Counts.{Counts}
-use Rattle.text.specs.Page.{Page, page, laid, front}
+use Rattle.text.specs.Page.{Page, page, laid, atStart}
 use Rattle.text.proofs.Pages.{laid-room}
 use Rattle.report.specs.Report.{reportText, Rendered, room}
 
-shown-counts : (t before after : List ℕ) (n : ℕ) → page after n ≡ front before t → Counts n after
+shown-counts : (t before after : List ℕ) (n : ℕ) → page after n ≡ atStart before t → Counts n after
 shown-counts t before after n e =
     let i : n ≤ length after = subst (λ (p : Page). p .place ≤ length (p .octets)) (sym e) (simp length-append (omega arith)) in
     (i, sym (length-take-le n after i))
 
-shown-text : (t before after : List ℕ) (n : ℕ) → page after n ≡ front before t → take n after ≡ t
+shown-text : (t before after : List ℕ) (n : ℕ) → page after n ≡ atStart before t → take n after ≡ t
 shown-text t before after n e =
     ap (λ (p : Page). take (p .place) (p .octets)) e ∙ take-append-seam t (drop (length t) before)
 
@@ -27,8 +27,8 @@ module _ (t before after : List ℕ) (n : ℕ) (e : page after n ≡ laid (page 
   laid-text = shown-text t before after n (e ∙ laid-room t before h)
 
 module _ {capture before after : List ℕ} {n : ℕ} (k : Rendered capture before n after) (h : room ≤ length before) where
-  all : page after n ≡ front before (reportText capture)
-  all = k .shown ∙ ap (front before) (take-all (length before) (reportText capture) (omega (arith, k .whole)))
+  all : page after n ≡ atStart before (reportText capture)
+  all = k .shown ∙ ap (atStart before) (take-all (length before) (reportText capture) (omega (arith, k .whole)))
 
   pub rendered-counts : Counts n after
   rendered-counts = shown-counts (reportText capture) before after n all

@@ -6,7 +6,7 @@ use lib.ListN.{length, take}
 use lib.Dec.{ltb}
 use Rattle.text.specs.Ascii.{ascii}
 use Rattle.text.specs.Digits.{decimal}
-use Rattle.text.specs.Page.{page, front}
+use Rattle.text.specs.Page.{page, atStart}
 use Rattle.space_packet.specs.Answer.{Answer, gives, refuses}
 use Rattle.space_packet.specs.Bits.{pick}
 use Rattle.tc_read.specs.declared.PusTcRecord.{PusTcRecord}
@@ -51,7 +51,7 @@ room = 12 + 4 * 65536 + 13 + 10
 -- what putting a report at the start of the buffer `before` answers and leaves
 pub record Rendered (capture before : List ℕ) (n : ℕ) (after : List ℕ) : Type 0 where
   -- as much of the report as there is room for, and its length; behind it what was there
-  pub shown : page after n ≡ front before (take (length before) (reportText capture))
+  pub shown : page after n ≡ atStart before (take (length before) (reportText capture))
   -- which is all of it where there are `room` octets
   pub whole : length (reportText capture) ≤ room
 

@@ -86,8 +86,8 @@ raw-written b p rest r =
 -- ---- read, then written
 
 -- octets that verify, and whose version nibble is C's
-pub written-again : (s : List ℕ) (n : ℕ) → Octets s → checkedOf startC s ≡ gives n → getD s 6 0 / 16 ≡ 2 → closed true (contentOf pusC (readAs pusC s n)) ≡ take n s
-written-again s n o p v =
+pub verified-written : (s : List ℕ) (n : ℕ) → Octets s → checkedOf startC s ≡ gives n → getD s 6 0 / 16 ≡ 2 → closed true (contentOf pusC (readAs pusC s n)) ≡ take n s
+verified-written s n o p v =
     let q = checked-total startC s n p in
     let l : startC ≤ length s = omega (arith, q .0 .room, q .0 .fits) in
     packet-back pusC laws s n o (q .0)
@@ -109,4 +109,4 @@ report-written s r o p v =
     let d = ap (λ (a : Answer ℕ). dataPart startC true a s) f in
     let e : record { primary = r .«sp_header»; secondary = r .«sec_header»; user = appData s true } ≡ readAs pusC s (r .total) = λ i. record { primary = q .1 i .«sp_header»; secondary = q .1 i .«sec_header»; user = d i } in
     ap (λ (x : Packet PusTcSecondaryHeader). closed true (contentOf pusC x)) e
-    ∙ written-again s (r .total) o (q .0) v ∙ sym (raw-part s true r (checked-read s r p))
+    ∙ verified-written s (r .total) o (q .0) v ∙ sym (raw-part s true r (checked-read s r p))

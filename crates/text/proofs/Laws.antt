@@ -19,14 +19,14 @@ next s i h = rw add-one (drop-cons s i 0 h)
 
 -- ---- a loop over a text: f at the state a and what is left of s is what it was at the start
 
-pub record Kept {A B : Type 0} (f : A → List ℕ → B) (s : List ℕ) (t : B) (i : ℕ) (a : A) : Type 0 where
+pub record StillGives {A B : Type 0} (f : A → List ℕ → B) (s : List ℕ) (t : B) (i : ℕ) (a : A) : Type 0 where
   pub kept : f a (drop i s) ≡ t
 
-module _ {A B : Type 0} {f : A → List ℕ → B} {s : List ℕ} {t : B} {i : ℕ} {a : A} (k : Kept f s t i a) where
+module _ {A B : Type 0} {f : A → List ℕ → B} {s : List ℕ} {t : B} {i : ℕ} {a : A} (k : StillGives f s t i a) where
   pub here : i < length s → f a (getD s i 0 ∷ drop (i + 1) s) ≡ t
   here h = sym (ap (f a) (next s i h)) ∙ k .kept
 
-  pub on : {b : A} → i < length s → ((l : List ℕ) → f a (getD s i 0 ∷ l) ≡ f b l) → Kept f s t (i + 1) b
+  pub on : {b : A} → i < length s → ((l : List ℕ) → f a (getD s i 0 ∷ l) ≡ f b l) → StillGives f s t (i + 1) b
   on h e = record { kept = sym (e (drop (i + 1) s)) ∙ here h }
 
   pub end : length s ≤ i → f a [] ≡ t

@@ -9,7 +9,7 @@ use borrow.Author.Tests.{lt-ltb, le-ltb, ltb-true, ltb-false}
 use lib.Dec.{ltb}
 use lib.ListN.{length, take, drop, set, length-set, length-append, length-take, length-drop, take-append-drop, drop-of-length-le}
 use lib.Seq.{sets, sets-eq}
-use Rattle.text.specs.Page.{Page, page, placed, laid, front}
+use Rattle.text.specs.Page.{Page, page, placed, laid, atStart}
 
 -- one text after another is the two in one
 pub laid-append : (p : Page) (a b : List ℕ) → laid (laid p a) b ≡ laid p (a ++ b)
@@ -31,7 +31,7 @@ laid-sets (x ∷ t) l n h =
     (laid-sets t (set l n x) (suc n) (simp length-set (omega arith)) ∙ ap (page _) z)
 
 -- from the start on: the text stands in front, and behind it what was there
-pub laid-room : (t l : List ℕ) → length t ≤ length l → laid (page l 0) t ≡ front l t
+pub laid-room : (t l : List ℕ) → length t ≤ length l → laid (page l 0) t ≡ atStart l t
 laid-room t l h =
     let z : 0 + length t ≡ length t = omega arith in
     laid-sets t l 0 (omega arith)
@@ -45,16 +45,16 @@ laid-full [] l n h = refl
 laid-full (x ∷ t) l n h = rw (le-ltb n (length l) h) (laid-full t l n h)
 
 laid-over : (t l : List ℕ) (b : Bool) → ltb (length l) (length t) ≡ b
-    → laid (front l (take (length l) t)) (drop (length l) t) ≡ front l (take (length l) t)
+    → laid (atStart l (take (length l) t)) (drop (length l) t) ≡ atStart l (take (length l) t)
 unfolding laid
 laid-over t l true e =
     let z : length l < length t = ltb-true _ _ e in
     laid-full (drop (length l) t) _ _ (simp (length-append, length-take, length-drop) (omega arith))
-laid-over t l false e = ap (laid (front l (take (length l) t))) (drop-of-length-le t (ltb-false _ _ e))
+laid-over t l false e = ap (laid (atStart l (take (length l) t))) (drop-of-length-le t (ltb-false _ _ e))
 
 -- any text: as much of it as there is room for
-pub laid-front : (t l : List ℕ) → laid (page l 0) t ≡ front l (take (length l) t)
-laid-front t l =
+pub laid-start : (t l : List ℕ) → laid (page l 0) t ≡ atStart l (take (length l) t)
+laid-start t l =
     ap (laid (page l 0)) (sym (take-append-drop (length l) t))
     ∙ sym (laid-append (page l 0) (take (length l) t) (drop (length l) t))
     ∙ ap (λ (p : Page). laid p (drop (length l) t)) (laid-room (take (length l) t) l (simp length-take (omega arith)))

@@ -25,27 +25,27 @@ laid p [] = p
 laid p (b ∷ l) = laid (placed p b) l
 
 -- a text at the start of a buffer that has room for it; behind it what was there
-abbrev pub front : List ℕ → List ℕ → Page
-front before t = page (t ++ drop (length t) before) (length t)
+abbrev pub atStart : List ℕ → List ℕ → Page
+atStart before t = page (t ++ drop (length t) before) (length t)
 
 -- ---- octets read into a buffer
 
 -- how many were read, or that the text is none, and the buffer
-pub record Octets : Type 0 where
+pub record OctetsRead : Type 0 where
   pub value : Value
   pub left : List ℕ
 
-abbrev pub read : Value → List ℕ → Octets
+abbrev pub read : Value → List ℕ → OctetsRead
 read v l = record { value = v; left = l }
 
-abbrev pub filled : Page → Octets
+abbrev pub filled : Page → OctetsRead
 filled p = read (Is (p .place)) (p .octets)
 
 -- `-` for none, or one or more pairs of digits whose octets have room; any other text leaves the buffer as it was
-unfoldable pub octetsOf : List ℕ → List ℕ → Octets
+unfoldable pub octetsOf : List ℕ → List ℕ → OctetsRead
 octetsOf before l =
     pick (eqb (length l) 0) (read Bad before)
     (pick (eqb (length l) 1)
     (pick (eqb (getD l 0 0) 45) (read (Is 0) before) (read Bad before))
     (pick (ltb (length before) (length l / 2)) (read Bad before)
-    (pick (arePairs l) (filled (front before (pairOctets l))) (read Bad before))))
+    (pick (arePairs l) (filled (atStart before (pairOctets l))) (read Bad before))))

@@ -5,12 +5,12 @@ use native.Mathlib.Omega.{arith}
 use lib.ListN.{length}
 use Rattle.crc_register.specs.Crc.{_⊕_, bit, shiftIn, run, octetBits, crcFrom}
 use Rattle.crc_register.specs.Table.{entry, entries}
-use Rattle.crc_register.proofs.Linear.{Kept, turn, end}
+use Rattle.crc_register.proofs.Linear.{StillMakes, turn, end}
 use Rattle.crc_register.proofs.table_from.Statement.{statement}
 use Rattle.crc_register.proofs.table_from.Tie as tie
 
 abbrev Inv-loop : tie.InvT-loop
-Inv-loop register s t r₀ i₀ r i = Kept s (crcFrom register s) i r
+Inv-loop register s t r₀ i₀ r i = StillMakes s (crcFrom register s) i r
 
 abbrev μ-loop : tie.MeasureT-loop
 μ-loop register s t r₀ i₀ r i = length s - i

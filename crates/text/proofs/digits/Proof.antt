@@ -5,12 +5,12 @@ use native.Mathlib.Omega.{arith}
 use borrow.Author.Needs.{needs}
 use lib.ListN.{length}
 use Rattle.text.specs.Digits.{withDigit, andThen, numberFrom}
-use Rattle.text.proofs.Laws.{Kept, here, on, end}
+use Rattle.text.proofs.Laws.{StillGives, here, on, end}
 use Rattle.text.proofs.digits.Statement.{statement}
 use Rattle.text.proofs.digits.Tie as tie
 
 abbrev Inv-loop : tie.InvT-loop
-Inv-loop s n₀ i₀ n i = Kept numberFrom s (numberFrom 0 s) i n
+Inv-loop s n₀ i₀ n i = StillGives numberFrom s (numberFrom 0 s) i n
 
 abbrev μ-loop : tie.MeasureT-loop
 μ-loop s n₀ i₀ n i = length s - i

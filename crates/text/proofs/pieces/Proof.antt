@@ -5,12 +5,12 @@ use mathlib.Core.List.{List}
 use native.Mathlib.Omega.{arith}
 use lib.ListN.{length}
 use Rattle.text.specs.Pieces.{countOf}
-use Rattle.text.proofs.Laws.{Kept, here, on, end, count-le}
+use Rattle.text.proofs.Laws.{StillGives, here, on, end, count-le}
 use Rattle.text.proofs.pieces.Statement.{statement}
 use Rattle.text.proofs.pieces.Tie as tie
 
 abbrev Inv-loop : tie.InvT-loop
-Inv-loop s sep n₀ i₀ n i = Kept (λ (k : ℕ) (l : List ℕ). k + countOf sep l) s (1 + countOf sep s) i n
+Inv-loop s sep n₀ i₀ n i = StillGives (λ (k : ℕ) (l : List ℕ). k + countOf sep l) s (1 + countOf sep s) i n
 
 abbrev μ-loop : tie.MeasureT-loop
 μ-loop s sep n₀ i₀ n i = length s - i

@@ -6,12 +6,12 @@ use native.Mathlib.Omega.{arith}
 use lib.ListN.{length}
 use Rattle.text.specs.Digits.{hexText}
 use Rattle.text.specs.Page.{Page, page, laid}
-use Rattle.text.proofs.Laws.{Kept, on, end}
+use Rattle.text.proofs.Laws.{StillGives, on, end}
 use Rattle.text.proofs.put_hex.Statement.{statement}
 use Rattle.text.proofs.put_hex.Tie as tie
 
 abbrev Inv-loop : tie.InvT-loop
-Inv-loop out₀ at s at₀ i₀ out at' i = Kept (λ (p : Page) (l : List ℕ). laid p (hexText l)) s (laid (page out₀ at) (hexText s)) i (page out at') × (length out ≡ length out₀)
+Inv-loop out₀ at s at₀ i₀ out at' i = StillGives (λ (p : Page) (l : List ℕ). laid p (hexText l)) s (laid (page out₀ at) (hexText s)) i (page out at') × (length out ≡ length out₀)
 
 abbrev μ-loop : tie.MeasureT-loop
 μ-loop out₀ at s at₀ i₀ out at' i = length s - i

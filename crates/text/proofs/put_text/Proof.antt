@@ -4,12 +4,12 @@ use mathlib.Core.Path.{_≡_, refl, sym, ap}
 use native.Mathlib.Omega.{arith}
 use lib.ListN.{length}
 use Rattle.text.specs.Page.{Page, page, laid}
-use Rattle.text.proofs.Laws.{Kept, on, end}
+use Rattle.text.proofs.Laws.{StillGives, on, end}
 use Rattle.text.proofs.put_text.Statement.{statement}
 use Rattle.text.proofs.put_text.Tie as tie
 
 abbrev Inv-loop : tie.InvT-loop
-Inv-loop out₀ at s at₀ i₀ out at' i = Kept laid s (laid (page out₀ at) s) i (page out at') × (length out ≡ length out₀)
+Inv-loop out₀ at s at₀ i₀ out at' i = StillGives laid s (laid (page out₀ at) s) i (page out at') × (length out ≡ length out₀)
 
 abbrev μ-loop : tie.MeasureT-loop
 μ-loop out₀ at s at₀ i₀ out at' i = length s - i

@@ -6,12 +6,12 @@ use native.Mathlib.Omega.{arith}
 use borrow.Author.Tests.{eq-eqb, ne-eqb}
 use lib.ListN.{length, drop}
 use Rattle.text.specs.Pieces.{gap}
-use Rattle.text.proofs.Laws.{Kept, here, on, end}
+use Rattle.text.proofs.Laws.{StillGives, here, on, end}
 use Rattle.text.proofs.seek.Statement.{statement}
 use Rattle.text.proofs.seek.Tie as tie
 
 abbrev Inv-loop : tie.InvT-loop
-Inv-loop s from b i₀ i = Kept (λ (k : ℕ) (l : List ℕ). k + gap b l) s (from + gap b (drop from s)) i i
+Inv-loop s from b i₀ i = StillGives (λ (k : ℕ) (l : List ℕ). k + gap b l) s (from + gap b (drop from s)) i i
 
 abbrev μ-loop : tie.MeasureT-loop
 μ-loop s from b i₀ i = length s - i

@@ -4,7 +4,7 @@ use native.Mathlib.Omega.{arith}
 use lib.ListN.{drop}
 use borrow.Author.Needs.{needs}
 use Rattle.crc_register.specs.Crc.{crcFrom}
-use Rattle.crc_register.proofs.Linear.{Kept, turn, end}
+use Rattle.crc_register.proofs.Linear.{StillMakes, turn, end}
 use Rattle.crc_fold.proofs.words.below_two.Statement.{statement}
 use Rattle.crc_fold.proofs.words.below_two.Tie as tie
 
@@ -17,13 +17,13 @@ no-table-octet-requires c κs = search needs
 returns : tie.Need-returns
 returns c =
     let a = c .before .before .before .before .args in
-    let k : Kept (a .s .now) (crcFrom (a .r) (drop (a .i) (a .s .now))) (a .i) (a .r) = record { kept = refl } in
+    let k : StillMakes (a .s .now) (crcFrom (a .r) (drop (a .i) (a .s .now))) (a .i) (a .r) = record { kept = refl } in
     end (turn k (omega arith) (c .no-table-octet .ensures)) (omega arith)
 
 returns-2 : tie.Need-returns-2
 returns-2 c =
     let a = c .before .before .args in
-    let k : Kept (a .s .now) (crcFrom (a .r) (drop (a .i) (a .s .now))) (a .i) (a .r) = record { kept = refl } in
+    let k : StillMakes (a .s .now) (crcFrom (a .r) (drop (a .i) (a .s .now))) (a .i) (a .r) = record { kept = refl } in
     end k (omega arith)
 
 pub below-two-spec : {M : Type 1} → statement M
