@@ -31,7 +31,7 @@ use denote.Triple.Statement.{Contract, Triple}
 use denote.Triple.Call.{calls-at}
 use denote.Triple.Entry.{Vals, onEntry}
 use denote.Triple.Spec.{tripleOf}
-use denote.Triple.Table.{entered, cited}
+use denote.Triple.Table.{cited}
 use denote.Triple.Walked.{says, ends-at}
 use denote.Triple.Clauses.{ensured, lasts}
 use Rattle.tc_read.specs.Read.{appData}
@@ -116,10 +116,8 @@ module _ {M : Type 1} (𝓤 : URA M) (H : Heap 𝓤) (A : Atoms 𝓤) (W : Given
 pub app-data-spec : {M : Type 1} → stated.statement M
 unfolding code.routine tablesOf
 app-data-spec 𝓤 H 𝓜 𝓖 𝓡 =
-    entered 𝓤 H (tripleOf 𝓤 H (𝓖 .A) this.signature (this.spec 𝓤 H (𝓖 .A) (𝓜 .mem) (𝓡 .run)))
-    (tables 𝓤 H 𝓜 𝓡 code.env .C) (tables 𝓤 H 𝓜 𝓡 code.env .Λ) #name code.function (code.unfolded 𝓤 H 𝓜 𝓡)
-    (meets R 𝓤 H (𝓖 .A) (this.clauses 𝓤 H (𝓖 .A) (𝓜 .mem) (𝓡 .run)) (givenOf 𝓤 H 𝓜 𝓖) (tablesOf 𝓤 H 𝓜 (tables 𝓤 H 𝓜 𝓡 code.env)) code.function
+    meets R 𝓤 H 𝓜 𝓖 𝓡 code.env (this.clauses 𝓤 H (𝓖 .A) (𝓜 .mem) (𝓡 .run)) #name code.function (code.unfolded 𝓤 H 𝓜 𝓡)
     (λ κ q d g p. walk 𝓤 H (𝓖 .A) (givenOf 𝓤 H 𝓜 𝓖) (𝓜 .mem) (𝓡 .run) κ q d (tables 𝓤 H 𝓜 𝓡 code.env .C) (tables 𝓤 H 𝓜 𝓡 code.env .Λ)
     (fmOf 𝓤 H (givenOf 𝓤 H 𝓜 𝓖 .laws) (tablesOf 𝓤 H 𝓜 (tables 𝓤 H 𝓜 𝓡 code.env)))
     (cited 𝓤 H (Part 𝓤 H (𝓖 .A) (𝓜 .mem) (𝓡 .run)) 𝓜 𝓡 code.env #part part-def.routine code.calls-tc-read·app-data (part-thm.met 𝓤 H 𝓜 𝓖 𝓡))
-    (typedAt 𝓤 H (𝓖 .A) (givenOf 𝓤 H 𝓜 𝓖) κ d p)))
+    (typedAt 𝓤 H (𝓖 .A) (givenOf 𝓤 H 𝓜 𝓖) κ d p))

@@ -33,7 +33,7 @@ use denote.Triple.Statement.{Contract, Triple}
 use denote.Triple.Call.{calls-at}
 use denote.Triple.Entry.{Vals, onEntry}
 use denote.Triple.Spec.{Meets, tripleOf}
-use denote.Triple.Table.{entered, cited}
+use denote.Triple.Table.{cited}
 use denote.Triple.Walked.{says, Stays, stay-none, stay-none-slice, walkOf, goes-none, goes-none-slice, Walks, ends-at, walked, walk-meets}
 use denote.Exit.{yes}
 use denote.Triple.Clauses.{ensured, lasts}
@@ -50,6 +50,7 @@ use Rattle.tc_read.proofs.raw_data.Symbol.{name as #part}
 use Rattle.tc_read.proofs.raw_data.Met as part-thm
 use Rattle.tc_held.specs.Held.{primaryIn, secondaryIn, heldBy, heldOf}
 use Rattle.tc_held.specs.declared.PusTcReader.{PusTcReader}
+use Rattle.tc_held.proofs.Reader.{run-meets}
 use Rattle.tc_held.proofs.PusTcReader as T
 use Rattle.tc_held.proofs.PusTcReader.Laws as T′
 use Rattle.tc_held.proofs.sp_header_in as sp
@@ -230,8 +231,7 @@ this-meets 𝓤 H A W mem run 𝓣 known-part known-sp known-sec known-make = wa
 pub new-no-checksum-verification-spec : {M : Type 1} → stated.statement M
 unfolding code.routine tablesOf
 new-no-checksum-verification-spec 𝓤 H 𝓜 𝓖 𝓡 =
-    entered 𝓤 H (tripleOf 𝓤 H (𝓖 .A) this.signature (this.spec 𝓤 H (𝓖 .A) (𝓜 .mem) (𝓡 .run)))
-    (tables 𝓤 H 𝓜 𝓡 code.env .C) (tables 𝓤 H 𝓜 𝓡 code.env .Λ) #name code.function (code.unfolded 𝓤 H 𝓜 𝓡)
+    run-meets 𝓤 H 𝓜 𝓖 𝓡 code.env this.signature (this.spec 𝓤 H (𝓖 .A) (𝓜 .mem) (𝓡 .run)) #name code.function (code.unfolded 𝓤 H 𝓜 𝓡)
     (this-meets 𝓤 H (𝓖 .A) (givenOf 𝓤 H 𝓜 𝓖) (𝓜 .mem) (𝓡 .run) (tablesOf 𝓤 H 𝓜 (tables 𝓤 H 𝓜 𝓡 code.env))
     (cited 𝓤 H (Part 𝓤 H (𝓖 .A) (𝓜 .mem) (𝓡 .run)) 𝓜 𝓡 code.env #part part-def.routine code.calls-tc-read·raw-data (part-thm.met 𝓤 H 𝓜 𝓖 𝓡))
     (cited 𝓤 H (Sp 𝓤 H (𝓖 .A) (𝓜 .mem) (𝓡 .run)) 𝓜 𝓡 code.env #sp sp-def.routine code.calls-tc-held·sp-header-in (sp-thm.met 𝓤 H 𝓜 𝓖 𝓡))

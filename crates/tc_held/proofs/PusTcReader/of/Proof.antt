@@ -31,8 +31,7 @@ use denote.Steps.{nothing, owned}
 use denote.Struct.Laws as LL
 use denote.Struct.Rest.{own-shut}
 use denote.Triple.Entry.{Vals, onEntry}
-use denote.Triple.Spec.{Meets, tripleOf}
-use denote.Triple.Table.{entered}
+use denote.Triple.Spec.{Meets}
 use denote.Triple.Walked.{says, Stays, stay-none, stay-none-slice, walkOf, goes-none, goes-none-slice, Walks, ends-at, walked, walk-meets}
 use denote.Exit.{yes}
 use Rattle.space_packet.specs.declared.SpacePacketHeader.{SpacePacketHeader}
@@ -42,7 +41,7 @@ use Rattle.tc_header.specs.declared.PusTcSecondaryHeader.{PusTcSecondaryHeader}
 use Rattle.tc_header.proofs.PusTcSecondaryHeader as S
 use Rattle.tc_header.proofs.PusTcSecondaryHeader.Laws as S′
 use Rattle.tc_held.specs.declared.PusTcReader.{PusTcReader}
-use Rattle.tc_held.proofs.Reader.{mach}
+use Rattle.tc_held.proofs.Reader.{mach, run-meets}
 use Rattle.tc_held.proofs.PusTcReader as T
 use Rattle.tc_held.proofs.PusTcReader.Laws as T′
 use Rattle.tc_held.proofs.PusTcReader.of.Key.{name as #name}
@@ -124,6 +123,5 @@ this-meets 𝓤 H A W mem run 𝓣 = walk-meets 𝓤 H A this.ended stayed W
 pub of-spec : {M : Type 1} → stated.statement M
 unfolding code.routine tablesOf
 of-spec 𝓤 H 𝓜 𝓖 𝓡 =
-    entered 𝓤 H (tripleOf 𝓤 H (𝓖 .A) this.signature (this.spec 𝓤 H (𝓖 .A) (𝓜 .mem) (𝓡 .run)))
-    (tables 𝓤 H 𝓜 𝓡 code.env .C) (tables 𝓤 H 𝓜 𝓡 code.env .Λ) #name code.function (code.unfolded 𝓤 H 𝓜 𝓡)
+    run-meets 𝓤 H 𝓜 𝓖 𝓡 code.env this.signature (this.spec 𝓤 H (𝓖 .A) (𝓜 .mem) (𝓡 .run)) #name code.function (code.unfolded 𝓤 H 𝓜 𝓡)
     (this-meets 𝓤 H (𝓖 .A) (givenOf 𝓤 H 𝓜 𝓖) (𝓜 .mem) (𝓡 .run) (tablesOf 𝓤 H 𝓜 (tables 𝓤 H 𝓜 𝓡 code.env)))

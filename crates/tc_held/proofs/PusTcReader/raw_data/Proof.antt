@@ -12,15 +12,13 @@ use prog.Routine.{Routine}
 use prog.Wp.{Heap, Calls, Loops, WpFn}
 use ghost.Atoms.{Atoms}
 use contract.Monad.{Fun}
-use contract.Running.{givenOf, tables, tablesOf}
+use contract.Running.{givenOf, tables}
 use types.Kit.{Given, ‵, _⊛_, _$_, _∵_, !, qed, by, move, use1, split, fsplit, fjoin, suffices, frame, done}
 use types.Part.{whole, sub, look-in}
 use types.Run.{look, init, forget, stop, fld, from, load, of-opd, assigns, returns, enter, alloc1, alloc0, params1, pass1, pass0, free1, free0}
 use denote.RattleType.{owns}
 use denote.Ref.{NamedLft}
 use denote.Signature.{Slot, namedLft}
-use denote.Triple.Spec.{tripleOf}
-use denote.Triple.Table.{entered}
 use denote.Triple.Walked.{says, ends-at}
 use Rattle.tc_held.specs.declared.PusTcReader.{PusTcReader}
 use Rattle.tc_held.proofs.Reader.{mach, rawVal, Own, Raw, raw-out}
@@ -54,10 +52,8 @@ module _ {M : Type 1} (𝓤 : URA M) (H : Heap 𝓤) (A : Atoms 𝓤) (W : Given
         returns ! (look ! 2 refl) $ forget ! 0 refl $ forget ! 2 refl $ move ! (2 ∷ 3 ∷ []) $ free1 ! $ free1 ! $ free0 ! $ by ! exits))
 
 pub raw-data-spec : {M : Type 1} → stated.statement M
-unfolding code.routine tablesOf
+unfolding code.routine
 raw-data-spec 𝓤 H 𝓜 𝓖 𝓡 =
-    entered 𝓤 H (tripleOf 𝓤 H (𝓖 .A) this.signature (this.spec 𝓤 H (𝓖 .A) (𝓜 .mem) (𝓡 .run)))
-    (tables 𝓤 H 𝓜 𝓡 code.env .C) (tables 𝓤 H 𝓜 𝓡 code.env .Λ) #name code.function (code.unfolded 𝓤 H 𝓜 𝓡)
-    (meets R 𝓤 H (𝓖 .A) (this.clauses 𝓤 H (𝓖 .A) (𝓜 .mem) (𝓡 .run)) (givenOf 𝓤 H 𝓜 𝓖) (tablesOf 𝓤 H 𝓜 (tables 𝓤 H 𝓜 𝓡 code.env)) code.function
+    meets R 𝓤 H 𝓜 𝓖 𝓡 code.env (this.clauses 𝓤 H (𝓖 .A) (𝓜 .mem) (𝓡 .run)) #name code.function (code.unfolded 𝓤 H 𝓜 𝓡)
     (λ κ q d g p. walk 𝓤 H (𝓖 .A) (givenOf 𝓤 H 𝓜 𝓖) (𝓜 .mem) (𝓡 .run) κ q d (tables 𝓤 H 𝓜 𝓡 code.env .C) (tables 𝓤 H 𝓜 𝓡 code.env .Λ)
-    (typedAt 𝓤 H (𝓖 .A) (givenOf 𝓤 H 𝓜 𝓖) κ d p)))
+    (typedAt 𝓤 H (𝓖 .A) (givenOf 𝓤 H 𝓜 𝓖) κ d p))
