@@ -31,13 +31,13 @@ unfolding refuseIf
 version-passes v =
     (λ p. version-inj v PusC (eqb-true _ _ (not-false _ (refuse-gives _ _ _ _ p .0))), ap versionCheck)
 
-three-then : (a c : Passed) (b k : Answer ℕ) → ((a then λ _. b then λ _. c) then λ _. k) ≡ (a then λ _. b then λ _. c then λ _. k)
-unfolding _then_
-three-then (refuses e) c b k = refl
-three-then (gives u) c (refuses e) k = refl
-three-then (gives u) c (gives n) k = refl
-
--- a write is its three checks, and then its size
-pub write-checked : (x : PusTcSecondaryHeader) (n : ℕ) → secWrite x n ≡ ((ackCheck (x .«ack_flags») then λ _. inBuffer n 5 then λ _. versionCheck (x .version)) then λ _. gives 5)
+-- a write is its three checks, and then its size: by their answers, not by how the definition groups them
+by-answers : (x : PusTcSecondaryHeader) (n : ℕ) (a c : Passed) (b : Answer ℕ) → ackCheck (x .«ack_flags») ≡ a → inBuffer n 5 ≡ b → versionCheck (x .version) ≡ c
+    → secWrite x n ≡ ((a then λ _. b then λ _. c) then λ _. gives 5)
 unfolding secWrite _then_
-write-checked x n = sym (three-then (ackCheck (x .«ack_flags»)) (versionCheck (x .version)) (inBuffer n 5) (gives 5))
+by-answers x n (refuses e) c b p q r = rw p refl
+by-answers x n (gives u) c (refuses e) p q r = rw (p, q) refl
+by-answers x n (gives u) c (gives m) p q r = rw (p, q, r) refl
+
+pub write-checked : (x : PusTcSecondaryHeader) (n : ℕ) → secWrite x n ≡ ((ackCheck (x .«ack_flags») then λ _. inBuffer n 5 then λ _. versionCheck (x .version)) then λ _. gives 5)
+write-checked x n = by-answers x n _ _ _ refl refl refl
