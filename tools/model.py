@@ -4,7 +4,7 @@
 It speaks the protocol of docs/PROTOCOL.md, one request a line in and one answer a line out, and was written from the
 layout, the table of refusals and the orders of refusals, without a look at the port or at the crate. The checksum is
 Python's own, binascii.crc_hqx. Unlike the crate it also has an answer outside the domain of equality (a field over its
-width, a version other than C, a total above 65,542 octets), and to `strict` and `split`.
+width, a version other than C, a total above 65,542 octets), to `strict` and `split`, and to requests in PUS A.
 
     tools/model.py <requests >answers
 """
@@ -14,9 +14,7 @@ import sys
 
 MACHINE = 2**64 - 1        # the largest machine size
 LIMIT = 65542              # the largest total that a length field can state
-HEADERS = 11               # primary and secondary header
-WIDTHS = {1: 7, 2: 2047, 3: 16383, 4: 15}         # the largest in range, by the place that refusal 7 reports
-SETTER_PLACES = {'pvn': 1, 'apid': 2, 'scount': 3, 'ack': 4}
+SETTER_PLACES = {'pvn': 1, 'apid': 2, 'scount': 3, 'ack': 4, 'source': 5}
 
 
 class Refused(Exception):
@@ -37,9 +35,27 @@ def refuse_if(test, *number_and_values):
         raise Refused(*number_and_values)
 
 
-def in_range(place, value):
-    """7: FieldRange place, value."""
-    refuse_if(value > WIDTHS[place], 7, place, value)
+class Form:
+    """A form of telecommand: its PUS version, and how many octets its source ID has. The data start after these."""
+
+    def __init__(self, version, source_octets):
+        self.version, self.source_octets, self.start = version, source_octets, 9 + source_octets
+        # The largest in range, by the place that refusal 7 reports.
+        self.tops = {1: 7, 2: 2047, 3: 16383, 4: 15, 5: 256**source_octets - 1}
+
+
+PUS_C = Form(2, 2)
+
+
+def pus_a(width):
+    """The form with a source ID of this many bits. 32: SourceWidth, before all others."""
+    refuse_if(width not in (0, 8, 16), 32)
+    return Form(1, width // 8)
+
+
+def in_range(place, value, form=PUS_C):
+    """7: FieldRange place, value. Place 5 can be over its width in PUS A alone."""
+    refuse_if(value > form.tops[place], 7, place, value)
     return value
 
 
@@ -105,16 +121,18 @@ class Sec:
 
     __str__ = Sp.__str__
 
-    def octets(self):
-        return bytes([self.version << 4 | self.ack, self.service, self.subtype]) + be16(self.source)
+    def octets(self, form=PUS_C):
+        first = bytes([self.version << 4 | self.ack, self.service, self.subtype])
+        return first + self.source.to_bytes(form.source_octets, 'big')
 
-    def check(self):
+    def check(self, form=PUS_C):
         in_range(4, self.ack)
+        in_range(5, self.source, form)
 
     @classmethod
-    def read(cls, octets):
-        """The fields of octets 6 to 10 of a packet; the version is always reported as C."""
-        return cls(2, octets[6] & 15, octets[7], octets[8], int.from_bytes(octets[9:11], 'big'))
+    def read(cls, octets, form):
+        """The fields from octet 6 of a packet; the version is always reported as the form's. No source octets are 0."""
+        return cls(form.version, octets[6] & 15, octets[7], octets[8], int.from_bytes(octets[9:form.start], 'big'))
 
 
 # Writing.
@@ -122,8 +140,8 @@ class Sec:
 class Creator:
     """A telecommand to write. Construction: 7, 6."""
 
-    def __init__(self, sp, sec, set_length, has_checksum, data):
-        self.sp, self.sec, self.has_checksum, self.data = sp, sec, has_checksum, data
+    def __init__(self, sp, sec, set_length, has_checksum, data, form=PUS_C):
+        self.sp, self.sec, self.has_checksum, self.data, self.form = sp, sec, has_checksum, data, form
         self.check()
         sp.type, sp.shf = 1, 1
         if set_length:
@@ -131,10 +149,10 @@ class Creator:
 
     def check(self):
         self.sp.check()
-        self.sec.check()
+        self.sec.check(self.form)
 
     def total(self):
-        return HEADERS + len(self.data) + 2 * self.has_checksum
+        return self.form.start + len(self.data) + 2 * self.has_checksum
 
     def update_length(self):
         """7, 6."""
@@ -143,10 +161,10 @@ class Creator:
         self.sp.dlen = self.total() - 7
 
     def version_check(self):
-        refuse_if(self.sec.version != 2, 3, self.sec.version)
+        refuse_if(self.sec.version != self.form.version, 3, self.sec.version)
 
     def body(self):
-        return self.sp.octets() + self.sec.octets() + self.data
+        return self.sp.octets() + self.sec.octets(self.form) + self.data
 
     def own_checksum(self):
         """7, 3."""
@@ -169,7 +187,7 @@ class Creator:
         if name == 'upd':
             return self.update_length()
         if name in SETTER_PLACES:
-            in_range(SETTER_PLACES[name], *values)
+            in_range(SETTER_PLACES[name], *values, self.form)
         setattr(self.sp if name in Sp.NAMES else self.sec, name, *values)
 
     def answer(self, buffer):
@@ -196,13 +214,13 @@ def sp_write(buffer, sp):
     return 6, sp.octets() + buffer[6:]
 
 
-def new_builder():
-    return Sp(0, 1, 1, 0, 3, 0, 0), Sec(2, 15, 0, 0, 0)
+def new_builder(form):
+    return Sp(0, 1, 1, 0, 3, 0, 0), Sec(form.version, 15, 0, 0, 0)
 
 
-def build(setters, data):
+def build(setters, data, form):
     """The builder: each setter refuses what is handed in, 7; then construction, with the length set."""
-    sp, sec = new_builder()
+    sp, sec = new_builder(form)
     has_checksum, used = 1, b''
     for name, values in setters:
         if name in ('pid', 'apid'):
@@ -212,6 +230,8 @@ def build(setters, data):
             sp.sflags = values[0] if name == 'psc' else sp.sflags
         elif name == 'ack':
             sec.ack = in_range(4, *values)
+        elif name == 'source':
+            sec.source = in_range(5, *values, form)
         elif name == 'mtid':
             sec.service, sec.subtype = values
         elif name == 'cksum':
@@ -220,31 +240,32 @@ def build(setters, data):
             used = data
         else:
             setattr(sec, name, *values)
-    return Creator(sp, sec, 1, has_checksum, used)
+    return Creator(sp, sec, 1, has_checksum, used, form)
 
 
 def reserve(sp, sec, data_len, has_checksum, fill, finish, buffer):
     """7, 6 for the machine size, 1, 6 for the packet limit, 3; then the data part filled, then the finish."""
-    total = HEADERS + data_len + 2 * has_checksum
+    start = PUS_C.start
+    total = start + data_len + 2 * has_checksum
     try:
         sp.check()
         sec.check()
         refuse_if(total > MACHINE, 6, data_len)
         refuse_if(len(buffer) < total, 1, len(buffer), total)
         refuse_if(total > LIMIT, 6, data_len)
-        refuse_if(sec.version != 2, 3, sec.version)
+        refuse_if(sec.version != PUS_C.version, 3, sec.version)
     except Refused as refusal:
         return [refusal, text(buffer)]
     sp.type, sp.shf, sp.dlen = 1, 1, total - 7
-    first = sp.octets() + sec.octets() + buffer[HEADERS:]
-    filled = first[:HEADERS] + fill + first[HEADERS + len(fill):]
-    end = HEADERS + data_len
+    first = sp.octets() + sec.octets() + buffer[start:]
+    filled = first[:start] + fill + first[start + len(fill):]
+    end = start + data_len
     if finish == 'c':
         count, last = end, filled
     else:
         stored = be16(crc(filled[:end])) if has_checksum else b''
         count, last = total, filled[:end] + stored + filled[total:]
-    return ['ok', text(first), total, data_len, HEADERS, data_len, f'ok:{count}', text(last)]
+    return ['ok', text(first), total, data_len, start, data_len, f'ok:{count}', text(last)]
 
 
 # Reading.
@@ -252,22 +273,23 @@ def reserve(sp, sec, data_len, has_checksum, fill, finish, buffer):
 class Reader:
     """A packet read. `checksum` is none, taken or compared."""
 
-    def __init__(self, octets, checksum):
-        refuse_if(len(octets) < HEADERS, 2, len(octets), HEADERS)
-        self.sp, self.sec = Sp.read(octets), Sec.read(octets)
+    def __init__(self, octets, checksum, form=PUS_C):
+        self.start = form.start
+        refuse_if(len(octets) < self.start, 2, len(octets), self.start)
+        self.sp, self.sec = Sp.read(octets), Sec.read(octets, form)
         self.total = self.sp.dlen + 7
         refuse_if(len(octets) < self.total, 2, len(octets), self.total)
-        refuse_if(self.total < HEADERS, 2, self.total, HEADERS)
+        refuse_if(self.total < self.start, 2, self.total, self.start)
         self.raw, self.stored, self.end = octets[:self.total], '-', self.total
         if checksum != 'none':
             self.end = self.total - 2
-            refuse_if(self.end < HEADERS, 2, self.end, HEADERS)
+            refuse_if(self.end < self.start, 2, self.end, self.start)
             self.stored = text(self.raw[self.end:])
         refuse_if(checksum == 'compared' and crc(self.raw) != 0, 4, self.stored)
-        self.data = self.raw[HEADERS:self.end]
+        self.data = self.raw[self.start:self.end]
 
     def place(self):
-        return [self.total, HEADERS, len(self.data)]
+        return [self.total, self.start, len(self.data)]
 
     def equals_creator(self, creator):
         return str(self.sp) == str(creator.sp) and str(self.sec) == str(creator.sec) and self.data == creator.data
@@ -276,13 +298,13 @@ class Reader:
 WAYS = {'new': 'compared', 'nt': 'compared', 'noverify': 'taken', 'nocrc': 'none'}
 
 
-def strict(octets):
-    """All reader checks with the checksum, then 9, 10, 11, 3."""
-    reader = Reader(octets, 'compared')
+def strict(octets, form=PUS_C):
+    """All reader checks with the checksum, then 9, 10, 11, 3. The whole nibble counts, so PUS A refuses 9 as well."""
+    reader = Reader(octets, 'compared', form)
     refuse_if(reader.sp.pvn != 0, 9, reader.sp.pvn)
     refuse_if(reader.sp.type == 0, 10)
     refuse_if(reader.sp.shf == 0, 11)
-    refuse_if(octets[6] >> 4 != 2, 3, octets[6] >> 4)
+    refuse_if(octets[6] >> 4 != form.version, 3, octets[6] >> 4)
     return reader
 
 
@@ -395,10 +417,17 @@ def SEC(word):
     return Sec(*row_of(*SEC_ROW)(word))
 
 
+def FORM(word):
+    """The source width of PUS A: any u8, since a width that is none is refused only where the whole line is good."""
+    if not word.startswith('a'):
+        raise BadRequest
+    return U8(word[1:])
+
+
 # The requests: each gives its words.
 
-def edited(sp, sec, set_length, has_checksum, data, edits):
-    creator = Creator(sp, sec, set_length, has_checksum, data)
+def edited(sp, sec, set_length, has_checksum, data, edits, form=PUS_C):
+    creator = Creator(sp, sec, set_length, has_checksum, data, form)
     for name, values in edits:
         creator.edit(name, *values)
     return creator
@@ -423,17 +452,17 @@ def do_sphwrite(sp, buffer):
     return written(sp_write, buffer, sp)
 
 
-def do_read(mode, octets):
-    reader = Reader(octets, WAYS[mode])
+def do_read(mode, octets, form=PUS_C):
+    reader = Reader(octets, WAYS[mode], form)
     return ['ok', reader.sp, reader.sec, *reader.place(), reader.stored]
 
 
-def do_create(sp, sec, set_length, has_checksum, data, edits, buffer):
-    return edited(sp, sec, set_length, has_checksum, data, edits).answer(buffer)
+def do_create(sp, sec, set_length, has_checksum, data, edits, buffer, form=PUS_C):
+    return edited(sp, sec, set_length, has_checksum, data, edits, form).answer(buffer)
 
 
-def do_build(setters, data, buffer):
-    return build(setters, data).answer(buffer)
+def do_build(setters, data, buffer, form=PUS_C):
+    return build(setters, data, form).answer(buffer)
 
 
 def do_reserve(sp, sec, data_len, has_checksum, fill, finish, buffer):
@@ -476,8 +505,8 @@ def do_consts():
     return ['ALL=15 HEADER_LEN=5 LENGTH=6 MIN=11 DEFAULT=0 MAX_APID=2047 MAX_SEQ_COUNT=16383']
 
 
-def do_strict(octets):
-    reader = strict(octets)
+def do_strict(octets, form=PUS_C):
+    reader = strict(octets, form)
     return ['accept', reader.sp, reader.sec, *reader.place()]
 
 
@@ -499,20 +528,27 @@ REQUESTS = {
     'strict': (do_strict, [DATA]),
     'split': (split, [DATA]),
 }
+IN_FORM = {kind: REQUESTS[kind] for kind in ('read', 'create', 'build', 'strict')}      # what may come after `in FORM`
 
 
 def parsed(line):
-    """The kind of a request and its fields, each by its grammar."""
+    """The width that `in` names (none where the request is plain), the kind and its fields, each by its grammar."""
+    width, known = None, REQUESTS
     kind, *words = line.split(' ')
-    if kind not in REQUESTS:
+    if kind == 'in' and len(words) > 1:
+        width, known = FORM(words[0]), IN_FORM
+        kind, *words = words[1:]
+    if kind not in known:
         raise BadRequest
-    return kind, [read(word) for read, word in pairs(REQUESTS[kind][1], words)]
+    return width, kind, [read(word) for read, word in pairs(known[kind][1], words)]
 
 
 def answer(line):
     """The answer to one request, both without the end of line."""
     try:
-        kind, fields = parsed(line)
+        width, kind, fields = parsed(line)
+        if width is not None:
+            fields.append(pus_a(width))
         return ' '.join(map(str, REQUESTS[kind][0](*fields)))
     except Refused as refusal:
         return str(refusal)

@@ -11,6 +11,7 @@ out at every run.
     read     every short slice with every small length field in each way of reading; verifying; comparisons
     strict   each refusal of the strict verdict, faults together, and captures for the splitter
     grammar  lines that are no request, and their neighbours that are
+    pus_a    PUS A at each source width: read, judged, created and built, at the edges and refused; other widths
 
     tools/vectors.py FOLDER
 """
@@ -21,7 +22,7 @@ import random
 import sys
 
 import model
-from model import Creator, Sec, Sp, be16, crc, text
+from model import Creator, Sec, Sp, be16, crc, pus_a, text
 
 P5 = '1923C00500062F11010000616D'
 P6 = P5[:-2] + '6C'
@@ -309,10 +310,97 @@ def grammar_requests(_):
         yield f'reserve {P5_SP} {P5_SEC} {rest}'
     yield f'reserve 8,1,1,291,3,5,6 {P5_SEC} 0 1 0A f -'
     yield f'cmprc new - {P5_SP} {P5_SEC} 1 1 - apid=65536'
+    yield from form_grammar()
+
+
+def form_grammar():
+    """`in FORM` before a request. A bad field stands before a width that is none."""
+    yield from ('in', 'in ', 'in a8', 'in a8 ', 'in  a8 strict -', 'in a8  strict -', 'IN a8 strict -', 'in a8 strict',
+                'in a8 strict - -', 'in a8 strict 0', 'in a9 strict 0', 'in a9 read crc -', 'in a8 a8 strict -',
+                'in a8 in a8 strict -', 'in strict -', 'strict in a8 -')
+    for form in ('a', 'a08', 'a255', 'a256', 'a-8', 'a+8', 'a8.', 'a8,', 'aa8', 'A8', '8', '8a', 'b8', 'c0', 't0',
+                 'a00000000000000000008', 'a000000000000000000008'):
+        yield f'in {form} strict -'
+    for other in ('crc 00', 'sphread -', f'reserve {P5_SP} {P5_SEC} 0 1 - f -', 'split -', 'cmprr new - new -', 'consts'):
+        yield f'in a8 {other}'
+    yield 'in a9 split -'
+
+
+def pus_a_requests(rng):
+    for width in 0, 8, 16:
+        form = pus_a(width)
+        yield from (f'in a{width} {request}' for part in (a_readings, a_writings) for request in part(rng, form))
+    # Another width is refused before everything else that is wrong.
+    for width in 1, 9, 24, 255:
+        yield from (f'in a{width} {request}' for request in (
+            f'read new {P5}', 'strict -', 'create 8,1,1,2048,3,5,6 2,16,17,1,65535 1 1 - apid=2048 -', 'build ack=16 - -'))
+    yield f'strict {text(a_packet(pus_a(16)))}'           # PUS C refuses version 1 as before
+
+
+def a_packet(form, nibble=1, data=b'', source=0, first=0x19):
+    """A ping of PUS A with its right checksum, whatever its nibble is."""
+    second = bytes([nibble << 4 | 15, 17, 1]) + source.to_bytes(form.source_octets, 'big')
+    return sealed(bytes([first]) + bytes.fromhex('23C005') + be16(form.start + len(data) - 5) + second + data)
+
+
+def a_sources(form):
+    """The edges of a source ID: those within the form's width, and those over it."""
+    return [[source for source in (0, 1, 255, 256, 65535) if (source > form.tops[5]) == over] for over in (False, True)]
+
+
+def a_readings(rng, form):
+    ping = a_packet(form)
+    wrong = ping[:-1] + bytes([ping[-1] ^ 1])
+    yield from (f'read {mode} {text(ping)}' for mode in MODES)
+    yield from (f'read {mode} {text(wrong)}' for mode in ('nt', 'noverify'))
+    yield from (f'strict {text(octets)}' for octets in (ping, wrong, ping + b'tail'))
+    # P5 is a ping of PUS C: it is read, and reported as A; the verdict refuses its nibble, and any other but 1.
+    yield f'read new {P5}'
+    yield f'strict {P5}'
+    yield from (f'strict {text(a_packet(form, nibble))}' for nibble in (0, 9, 15))
+    yield f'read new {text(a_packet(form, 9))}'
+    for source in a_sources(form)[0]:
+        yield f'strict {text(a_packet(form, data=rng.randbytes(3), source=source))}'
+    for first in 0x39, 0x09, 0x11:                        # packet version number, type and flag stand before the nibble
+        yield f'strict {text(a_packet(form, 2, first=first))}'
+    # Lengths around the least totals: the octets that there are, and the total that the field states.
+    for length, stated in (-1, 2), (0, 2), (0, -1), (0, 0), (1, 1):
+        packet = bytes.fromhex('1923C005') + be16(form.start + stated - 7) + bytes.fromhex('1F1101000000')
+        yield from (f'{kind} {text(packet[:form.start + length])}' for kind in ('read new', 'read nocrc'))
+    yield f'strict {text(ping[:form.start - 1])}'
+
+
+def a_writings(rng, form):
+    within, over = a_sources(form)
+    total = form.start + 4                                # of two octets of data and a checksum
+    for source in within:
+        yield f'create 0,0,0,291,3,5,0 1,15,17,1,{source} 1 1 0A0B - {text(rng.randbytes(total))}'
+    for source in over:
+        yield f'create 0,0,0,291,3,5,0 1,15,17,1,{source} 1 1 0A0B - {zeros(total)}'
+    for source in over[:1]:                               # place 5 comes after place 4, before room and version
+        yield f'create 0,0,0,291,3,5,0 1,16,17,1,{source} 1 1 0A0B - {zeros(total)}'
+        yield f'create 0,0,0,291,3,5,0 2,15,17,1,{source} 0 1 0A0B - -'
+        yield f'build source={source};ack=16 - -'
+        yield f'build ack=16;source={source} - -'
+    yield f'create 7,0,0,2047,0,16383,77 1,0,255,255,0 0 0 0A0B - {text(rng.randbytes(total))}'
+    yield f'create 0,0,0,291,3,5,0 1,15,17,1,0 1 1 0A0B - {text(rng.randbytes(total - 1))}'
+    yield f'create 0,0,0,291,3,5,0 2,15,17,1,0 1 1 0A0B - {text(rng.randbytes(total))}'
+    yield f'create 0,0,0,291,3,5,0 0,15,17,1,0 1 1 0A0B - {text(rng.randbytes(total - 1))}'
+    for edits in (f'source={within[-1]};dlen=0;upd', 'type=0;shf=0;dlen=9', 'version=2', 'version=0;version=1',
+                  *(f'source={source};source=0' for source in over[:1])):
+        yield f'create 0,0,0,1,3,2,77 1,9,3,4,0 1 1 0A0B {edits} {zeros(total)}'
+    # Builder: its defaults, no room, and each source by its setter.
+    yield f'build - 0A0B {zeros(total)}'
+    yield f'build cksum=0;ack=9;data=1 0A0B {zeros(total - 3)}'
+    yield from (f'build apid=291;scount=5;mtid=17,1;source={source};data=1 0A0B {zeros(total)}' for source in within + over)
+    # The largest packet and one octet more; without a buffer the answer is short.
+    for length in 65542, 65543:
+        data = (bytes(range(256)) * 256)[:length - form.start - 2]
+        yield f'create {P5_SP} 1,15,17,1,{within[-1]} 1 1 {text(data)} - -'
 
 
 FILES = {'crc': crc_requests, 'header': header_requests, 'write': write_requests, 'limits': limits_requests,
-         'read': read_requests, 'strict': strict_requests, 'grammar': grammar_requests}
+         'read': read_requests, 'strict': strict_requests, 'grammar': grammar_requests, 'pus_a': pus_a_requests}
 
 
 def main():

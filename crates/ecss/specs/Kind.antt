@@ -16,7 +16,8 @@ use Rattle.ecss.specs.Frame.{Octets, trailer, sealed, maxTotal, checkedO
 -- ---- the strict checks that every kind shares
 
 -- CCSDS 133.0-B-2, 4.1.3.2 and 4.1.3.3: packet version number 0, the kind's type, a secondary header; ECSS-E-ST-70-41C, 7.4.3
--- and 7.4.4: the PUS version in the higher half of octet 6. Another type is refused with the number `other`.
+-- and 7.4.4: the PUS version in the higher half of octet 6, which in ECSS-E-70-41A is a zero bit and a version of three. Another
+-- type is refused with the number `other`.
 unfoldable pub pusRule : PacketType → Numbers → ℕ → SpacePacketHeader → ℕ → Passed
 pusRule type other version h octet =
     refuseIf (not (eqb (h .version) 0)) (refusal 9 (h .version ∷ []))

@@ -13,7 +13,7 @@ use space_packet::SpHeader;
 
 pub mod frame;
 
-// All PUS versions; only PUS C is written.
+// All PUS versions; PUS A and PUS C are written.
 pub enum PusVersion {
     EsaPus,
     PusA,

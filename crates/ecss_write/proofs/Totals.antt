@@ -25,10 +25,6 @@ total-length start b n t e h = rw (sym e) (refuse-no _ _ _ (le-ltb 1844674407370
 pub in-buffer-is : (m n t : ℕ) → inBuffer m n ≡ gives t → (t ≡ n) × (n ≤ m)
 in-buffer-is m n t p = let r = refuse-gives _ _ _ t p in (sym (gives-inj n t (r .1)), ltb-false m n (r .0))
 
--- what is asked next, of an answer that is known
-pub then-of : {A B : Type 0} (a b : Answer A) (f : A → Answer B) → a ≡ b → (a then f) ≡ (b then f)
-then-of a b f e = ap (λ x. x then f) e
-
 -- what is asked of a total that is not refused may be asked of what the refusal hands on
 refused-or-same : (b : Bool) (e : Numbers) (t : ℕ) (f : ℕ → Answer ℕ) → (refuseIf b e (gives t) then λ _. f t) ≡ (refuseIf b e (gives t) then f)
 unfolding _then_ refuseIf

@@ -1,4 +1,4 @@
-// A ping command: built in four ways, written, and each time judged as it was written.
+// A ping command: built in four ways, written, and each time judged as it was written; and once in PUS A, without a source ID.
 use ecss::CreatorConfig;
 use ecss::MessageTypeId;
 use ecss::PusError;
@@ -10,6 +10,7 @@ use space_packet::SeqCountResult;
 use space_packet::SizeResult;
 use space_packet::SpHeader;
 use tc_header::PusTcSecondaryHeader;
+use tc_header::TcForm;
 use tc_read::PusTcRecord;
 use tc_reserved::PusTcCreatorWithReservedAppData;
 use tc_reserved::ReservedResult;
@@ -166,6 +167,39 @@ fn write_no_crc(made: PusTcCreatorResult, buf: &mut [u8]) {
     }
 }
 
+// ---- PUS A
+
+// Written and judged in the form that it is made in.
+fn in_form(form: TcForm) {
+    let mut buf = [0u8; 11];
+    let none = [0u8; 0];
+    let made = PusTcCreator::new_simple_in(
+        form,
+        header(),
+        MessageTypeId::new(17, 1),
+        &none,
+        CreatorConfig::default(),
+    );
+    match made {
+        PusTcCreatorResult::Err(e) => say_refusal(e),
+        PusTcCreatorResult::Ok(creator) => {
+            creator.write_to_slice(&none, &mut buf);
+            say_octets(&buf);
+            say_verdict(tc_strict::judge_in(form, &buf));
+        }
+    }
+}
+
+fn say_verdict(verdict: Verdict) {
+    match verdict {
+        Verdict::Refused(e) => say_refusal(e),
+        Verdict::Accepted(record) => {
+            say_record(record);
+            say(b"\n");
+        }
+    }
+}
+
 // ---- the largest packet
 
 fn say_length(made: PusTcCreatorResult) {
@@ -195,4 +229,6 @@ fn main() {
     say_length(by_new(&most));
     let more = [0u8; 65530];
     say_length(by_new(&more));
+    in_form(TcForm::pus_a(0));
+    in_form(TcForm::pus_a(9));
 }

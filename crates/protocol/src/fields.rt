@@ -90,6 +90,17 @@ fn noted(said: Value, place: usize, v: &mut [u64], at: usize) -> usize {
     at
 }
 
+// The source width of a FORM: `a`, and a number of 8 bits.
+pub(crate) fn width(s: &[u8]) -> Value {
+    if s.len() == 0 {
+        return Value::Bad;
+    }
+    if s[0] != 97 {
+        return Value::Bad;
+    }
+    within(text::part(s, 1, s.len()), b"255")
+}
+
 // The word's place among names that spaces separate, or how many names there are.
 pub(crate) fn place(word: &[u8], names: &[u8]) -> usize {
     let n = text::pieces(names, 32);

@@ -11,14 +11,49 @@ mod write;
 
 ghost use mathlib.Core.Path.{_≡_};
 ghost use lib.ListN.{length};
+use tc_header::TcForm;
+use text::Value;
 
 // The requests before this one only read.
 const SPHWRITE: usize = 8;
 
 // Answers a line. a and b are room for the octets that its fields write.
 fn answer(line: &[u8], a: &mut [u8], b: &mut [u8]) {
-    reply(kind(line), line, a, b);
+    reply(line, a, b);
     show::say(b"\n");
+}
+
+// Requests are of PUS C, unless `in FORM` comes before them.
+fn reply(line: &[u8], a: &mut [u8], b: &mut [u8]) {
+    if check::same(text::piece(line, 32, 0), b"in") {
+        return reply_in(text::piece(line, 32, 1), behind(behind(line)), a, b);
+    }
+    reply_to(TcForm::PUS_C, kind(line), line, a, b)
+}
+
+fn reply_in(form: &[u8], line: &[u8], a: &mut [u8], b: &mut [u8]) {
+    let kind = kind(line);
+    let Value::Is(width) = fields::width(form) else {
+        return show::bad();
+    };
+    if takes_form(kind) {
+        return reply_to(TcForm::pus_a(fields::low8(width)), kind, line, a, b);
+    }
+    show::bad()
+}
+
+// What stands behind the first space.
+fn behind(s: &[u8]) -> &[u8] {
+    let e = text::seek(s, 0, 32);
+    if s.len() <= e {
+        return &s[..0];
+    }
+    &s[e + 1..]
+}
+
+// strict, read, create, build
+fn takes_form(kind: usize) -> bool {
+    kind == 2 || kind == 6 || kind == 9 || kind == 10
 }
 
 // The place of a request's first word among these, or how many there are.
@@ -29,10 +64,11 @@ fn kind(line: &[u8]) -> usize {
     )
 }
 
-fn reply(kind: usize, line: &[u8], a: &mut [u8], b: &mut [u8]) {
+fn reply_to(form: TcForm, kind: usize, line: &[u8], a: &mut [u8], b: &mut [u8]) {
     let mut v = [0u64; 18];
     if asked(kind, line, &mut v, a, b) {
-        return answer_to(kind, line, v, text::part(a, 0, v[fields::DATA] as usize), b);
+        let data = text::part(a, 0, v[fields::DATA] as usize);
+        return answer_to(form, kind, line, v, data, b);
     }
     show::bad()
 }
@@ -47,35 +83,35 @@ fn asked(kind: usize, line: &[u8], v: &mut [u64; 18], a: &mut [u8], b: &mut [u8]
     fields::read(form, line, v, a, b)
 }
 
-fn answer_to(kind: usize, line: &[u8], v: [u64; 18], data: &[u8], b: &mut [u8]) {
+fn answer_to(form: TcForm, kind: usize, line: &[u8], v: [u64; 18], data: &[u8], b: &mut [u8]) {
     let n = v[fields::BUF] as usize;
     if kind < SPHWRITE {
-        return reads(kind, v, data, text::part(b, 0, n));
+        return reads(form, kind, v, data, text::part(b, 0, n));
     }
     if b.len() <= n {
-        return writes(kind, line, v, data, b);
+        return writes(form, kind, line, v, data, b);
     }
-    writes(kind, line, v, data, &mut b[0..n])
+    writes(form, kind, line, v, data, &mut b[0..n])
 }
 
-fn reads(kind: usize, v: [u64; 18], data: &[u8], other: &[u8]) {
+fn reads(form: TcForm, kind: usize, v: [u64; 18], data: &[u8], other: &[u8]) {
     match kind {
         0 => checksum::checksum(data),
         1 => header::read(data),
-        2 => verdict::judge(data),
+        2 => verdict::judge(form, data),
         3 => verdict::split(data),
         4 => checksum::verify(v, data),
         5 => header::ack(v),
-        6 => read::read(v, data),
+        6 => read::read(form, v, data),
         _ => read::compare(v, data, other),
     }
 }
 
-fn writes(kind: usize, line: &[u8], v: [u64; 18], data: &[u8], buf: &mut [u8]) {
+fn writes(form: TcForm, kind: usize, line: &[u8], v: [u64; 18], data: &[u8], buf: &mut [u8]) {
     match kind {
         8 => header::write(v, buf),
-        9 => write::create(line, v, data, buf),
-        10 => write::build(line, v, data, buf),
+        9 => write::create(form, line, v, data, buf),
+        10 => write::build(form, line, v, data, buf),
         11 => write::reserve(v, data, buf),
         12 => write::compare(line, v, data, buf),
         13 => write::simple(v),

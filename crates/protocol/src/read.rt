@@ -1,6 +1,7 @@
 // The requests that read telecommands.
 use crate::fields;
 use crate::show;
+use tc_header::TcForm;
 use tc_read::Crc16;
 use tc_read::PusTcRecord;
 use tc_read::PusTcRecordResult;
@@ -15,9 +16,21 @@ pub(crate) fn read_as(mode: u64, s: &[u8]) -> PusTcRecordResult {
     }
 }
 
+// PUS A has one call for both forms of the checksum.
+fn read_in(form: TcForm, mode: u64, s: &[u8]) -> PusTcRecordResult {
+    if form.eq(TcForm::PUS_C) {
+        return read_as(mode, s);
+    }
+    match mode {
+        2 => PusTcRecord::new_no_checksum_verification_in(form, s, true),
+        3 => PusTcRecord::new_no_checksum_in(form, s),
+        _ => PusTcRecord::new_in(form, s),
+    }
+}
+
 // read MODE DATA
-pub(crate) fn read(v: [u64; 18], s: &[u8]) {
-    let r = read_as(v[fields::WORD], s);
+pub(crate) fn read(form: TcForm, v: [u64; 18], s: &[u8]) {
+    let r = read_in(form, v[fields::WORD], s);
     match r {
         PusTcRecordResult::Err(e) => show::refusal(e),
         PusTcRecordResult::Ok(record) => {

@@ -1,13 +1,14 @@
 // The requests on the strict verdict and the splitter, which the crate does not have.
 use crate::read;
 use crate::show;
+use tc_header::TcForm;
 use tc_strict::Verdict;
 use tc_strict::split::Cursor;
 use tc_strict::split::Step;
 
 // strict DATA
-pub(crate) fn judge(s: &[u8]) {
-    let v = tc_strict::judge(s);
+pub(crate) fn judge(form: TcForm, s: &[u8]) {
+    let v = tc_strict::judge_in(form, s);
     match v {
         Verdict::Refused(e) => show::refusal(e),
         Verdict::Accepted(record) => read::report(b"accept ", record),

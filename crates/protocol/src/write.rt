@@ -17,11 +17,13 @@ use space_packet::SequenceFlags;
 use space_packet::SizeResult;
 use space_packet::SpHeader;
 use tc_header::PusTcSecondaryHeader;
+use tc_header::TcForm;
 use tc_read::PusTcRecordResult;
 use tc_reserved::PusTcCreatorWithReservedAppData;
 use tc_reserved::ReservedResult;
 use tc_write::CrcResult;
 use tc_write::PusTcBuilder;
+use tc_write::PusTcBuilderResult;
 use tc_write::PusTcBuilderSet;
 use tc_write::PusTcCreator;
 use tc_write::PusTcCreatorResult;
@@ -29,13 +31,22 @@ use tc_write::PusTcCreatorSet;
 
 // ---- the creator
 
+// The form is refused before a field.
+fn check(form: TcForm, v: [u64; 18]) -> CheckResult {
+    let c = form.check();
+    let CheckResult::Ok = c else {
+        return c;
+    };
+    fields::check_heads(v)
+}
+
 // The creator that a line asks for, its edits made.
-fn creator(v: [u64; 18], data: &[u8], edits: &[u8]) -> PusTcCreatorResult {
-    let c = fields::check_heads(v);
+fn creator(form: TcForm, v: [u64; 18], data: &[u8], edits: &[u8]) -> PusTcCreatorResult {
+    let c = check(form, v);
     if let CheckResult::Err(e) = c {
         return PusTcCreatorResult::Err(e);
     }
-    let made = PusTcCreator::new(fields::header(v), second(v), data, config(v));
+    let made = PusTcCreator::new_in(form, fields::header(v), second(v), data, config(v));
     match made {
         PusTcCreatorResult::Err(e) => PusTcCreatorResult::Err(e),
         PusTcCreatorResult::Ok(c) => edited(c, data, edits),
@@ -102,7 +113,7 @@ fn edit_by(c: PusTcCreator, data: &[u8], name: usize, n: u64) -> PusTcCreatorSet
         6 => c.update_ccsds_data_len(data),
         7 => c.set_apid(apid(n)),
         8 => c.set_seq_count(fields::psc(n).seq_count),
-        9 => kept(c.set_source_id(fields::low16(n))),
+        9 => c.set_source_id(fields::low16(n)),
         10 => c.set_ack_flags(fields::ack(n)),
         _ => edit_header(c, name, n),
     }
@@ -170,8 +181,8 @@ fn edit_second(x: PusTcSecondaryHeader, name: usize, n: u64) -> PusTcSecondaryHe
 // ---- create
 
 // create SP SEC set has DATA EDITS BUF
-pub(crate) fn create(line: &[u8], v: [u64; 18], data: &[u8], buf: &mut [u8]) {
-    let r = creator(v, data, text::piece(line, 32, 6));
+pub(crate) fn create(form: TcForm, line: &[u8], v: [u64; 18], data: &[u8], buf: &mut [u8]) {
+    let r = creator(form, v, data, text::piece(line, 32, 6));
     made(r, data, text::piece(line, 32, 7), buf);
 }
 
@@ -225,17 +236,24 @@ fn write(way: usize, c: PusTcCreator, data: &[u8], buf: &mut [u8]) -> SizeResult
 // ---- build
 
 // build SETTERS DATA BUF
-pub(crate) fn build(line: &[u8], v: [u64; 18], data: &[u8], buf: &mut [u8]) {
-    let set = set(text::piece(line, 32, 1));
-    let r = set.result;
-    match r {
-        CheckResult::Err(e) => show::refusal(e),
-        CheckResult::Ok => built(
-            set.builder,
+pub(crate) fn build(form: TcForm, line: &[u8], v: [u64; 18], data: &[u8], buf: &mut [u8]) {
+    let begun = PusTcCreator::builder_in(form);
+    match begun {
+        PusTcBuilderResult::Err(e) => show::refusal(e),
+        PusTcBuilderResult::Ok(builder) => build_by(
+            set(builder, text::piece(line, 32, 1)),
             taken(v[fields::SECOND], data),
             text::piece(line, 32, 3),
             buf,
         ),
+    }
+}
+
+fn build_by(set: PusTcBuilderSet, data: &[u8], field: &[u8], buf: &mut [u8]) {
+    let r = set.result;
+    match r {
+        CheckResult::Err(e) => show::refusal(e),
+        CheckResult::Ok => built(set.builder, data, field, buf),
     }
 }
 
@@ -252,9 +270,9 @@ fn taken(n: u64, data: &[u8]) -> &[u8] {
 }
 
 // The setters from left to right, up to the first that is refused.
-fn set(setters: &[u8]) -> PusTcBuilderSet {
+fn set(builder: PusTcBuilder, setters: &[u8]) -> PusTcBuilderSet {
     let n = items::count(setters);
-    let mut s = unrefused(PusTcCreator::builder());
+    let mut s = unrefused(builder);
     let mut k = 0;
     while k < n {
         s = set_one(s, setters, k);
@@ -289,6 +307,7 @@ fn set_by(b: PusTcBuilder, name: usize, v: [u64; 4]) -> PusTcBuilderSet {
     match name {
         7 => b.with_apid(apid(v[0])),
         8 => b.with_sequence_count(fields::psc(v[0]).seq_count),
+        9 => b.with_source_id(fields::low16(v[0])),
         10 => b.with_ack_flags(fields::ack(v[0])),
         13 => b.with_packet_id(packet_id(v)),
         14 => b.with_packet_sequence_control(psc(v)),
@@ -314,7 +333,6 @@ fn psc(v: [u64; 4]) -> PacketSequenceControl {
 // The setters that refuse nothing. `data` is none of the builder's.
 fn set_freely(b: PusTcBuilder, name: usize, v: [u64; 4]) -> PusTcBuilder {
     match name {
-        9 => b.with_source_id(fields::low16(v[0])),
         11 => b.with_service_type_id(fields::low8(v[0])),
         12 => b.with_message_subtype_id(fields::low8(v[0])),
         15 => b.with_message_type_id(MessageTypeId::new(fields::low8(v[0]), fields::low8(v[1]))),
@@ -403,7 +421,7 @@ pub(crate) fn compare(line: &[u8], v: [u64; 18], data: &[u8], slice: &[u8]) {
     match r {
         PusTcRecordResult::Err(e) => show::refusal(e),
         PusTcRecordResult::Ok(_) => compared(
-            creator(v, data, text::piece(line, 32, 8)),
+            creator(TcForm::PUS_C, v, data, text::piece(line, 32, 8)),
             data,
             slice,
             mode < 3,

@@ -6,7 +6,8 @@ use native.Mathlib.Omega.{arith}
 use lib.ListN.{length}
 use Rattle.text.specs.Page.{Page, laid}
 use Rattle.text.proofs.Pages.{and-then}
-use Rattle.tc_strict.specs.Split.{Piece, Next, end, piece, lengthOf, stepAnswer, stepOf, continue, walkFrom}
+use Rattle.tc_strict.specs.Verdict.{strictOf}
+use Rattle.tc_strict.specs.Split.{Piece, Next, end, piece, lengthOf, stepAnswer, stepOf, continue, walkBy, walkFrom}
 use Rattle.tc_strict.specs.declared.split.Step.{Step}
 use Rattle.tc_strict.specs.declared.split.Step.the-variants as S
 use Rattle.tc_strict.proofs.Pieces.{step-end, step-is, ended-is}
@@ -24,9 +25,9 @@ behind-next S.End last = refl
 
 -- from the capture's end on there is no piece
 pub none-left : (turns : ℕ) (s : List ℕ) (at : ℕ) → length s ≤ at → walkFrom turns s at ≡ []
-unfolding walkFrom
+unfolding walkBy
 none-left zero s at h = refl
-none-left (suc turns) s at h = ap (λ (x : Next). continue x (walkFrom turns s)) (step-end s at h)
+none-left (suc turns) s at h = ap (λ (x : Next). continue x (walkFrom turns s)) (step-end strictOf s at h)
 
 -- the lines before `from` are laid into p, and what is left of the walk makes it t
 pub record Left (s : List ℕ) (t : Page) (from : ℕ) (p : Page) : Type 0 where
@@ -42,9 +43,9 @@ on-piece : (turns : ℕ) (s : List ℕ) (t : Page) (from last : ℕ) (p q : Page
     → length s - from ≤ suc turns → laid p (linesOf (continue x (walkFrom turns s))) ≡ t
     → q ≡ laid p (stepText x) → On s t from (nextFrom x last) q
 unfolding stepText linesOf
-on-piece turns s t from last p q end h e enough kept w = absurd (let z = ended-is s from (sym e) in omega arith)
+on-piece turns s t from last p q end h e enough kept w = absurd (let z = ended-is strictOf s from (sym e) in omega arith)
 on-piece turns s t from last p q (piece c next) h e enough kept w =
-    let k = step-is s from c next (sym e) in
+    let k = step-is strictOf s from c next (sym e) in
     let n : next ≡ from + lengthOf c = k .1 in
     let l = k .0 .long in
     record {
@@ -59,7 +60,7 @@ on-piece turns s t from last p q (piece c next) h e enough kept w =
 on-turns : (turns : ℕ) (s : List ℕ) (t : Page) (from last : ℕ) (p q : Page) (x : Next) → from < length s → x ≡ stepOf s from
     → length s - from ≤ turns → laid p (linesOf (walkFrom turns s from)) ≡ t
     → q ≡ laid p (stepText x) → On s t from (nextFrom x last) q
-unfolding walkFrom
+unfolding walkBy
 on-turns zero s t from last p q x h e enough kept w = absurd (omega arith)
 on-turns (suc turns) s t from last p q x h e enough kept w =
     on-piece turns s t from last p q x h e enough

@@ -16,11 +16,12 @@ use Rattle.space_packet.specs.declared.SpacePacketHeader.{SpacePacketHeader}
 use Rattle.ecss.specs.Frame.{Octets, statedOf, frameOf, checkedOf}
 use Rattle.ecss.specs.Kind.{pusRule, strictRule, judge}
 use Rattle.ecss.proofs.Pieces.{octets-take, octets-drop}
-use Rattle.tc_header.specs.Header.{pusC, secOf}
-use Rattle.tc_read.specs.Read.{startC, recordOf}
+use Rattle.tc_header.specs.Form.{formC, formCheck}
+use Rattle.tc_header.specs.Header.{pusC, tcOf}
+use Rattle.tc_read.specs.Read.{startC, recordIn}
 use Rattle.tc_read.specs.declared.PusTcRecord.{PusTcRecord}
-use Rattle.tc_strict.specs.Verdict.{strictOf}
-use Rattle.tc_strict.specs.Split.{packet, tail, Next, end, piece, stepOf, continue, walkFrom, walk}
+use Rattle.tc_strict.specs.Verdict.{strictIn, strictOf}
+use Rattle.tc_strict.specs.Split.{packet, tail, Next, end, piece, stepOf, continue, walkBy, walkFrom, walk}
 use Rattle.tc_strict.proofs.Pieces.{step-is}
 use Rattle.report.specs.Report.{twoText, verdictText, lineOf, linesOf, bodyText, reportText, room}
 use Rattle.report.proofs.Lines.{none-left}
@@ -72,8 +73,8 @@ abbrev subtype : PusTcRecord → ℕ
 subtype r = r .«sec_header» .«message_type_id» .«subtype_id»
 
 -- a service type and a message subtype are octets
-small-record : (s : List ℕ) (n : ℕ) → Octets s → (service (recordOf s true n) < 1000) × (subtype (recordOf s true n) < 1000)
-unfolding recordOf secOf
+small-record : (s : List ℕ) (n : ℕ) → Octets s → (service (recordIn formC s true n) < 1000) × (subtype (recordIn formC s true n) < 1000)
+unfolding recordIn tcOf
 small-record s n o =
     let q = octets-take (pusC .size) (drop 6 s) (octets-drop 6 s o) in
     let x = q 1 in
@@ -81,8 +82,9 @@ small-record s n o =
     (omega arith, omega arith)
 
 small-strict : (s : List ℕ) → Octets s → Small (λ (r : PusTcRecord). (service r < 1000) × (subtype r < 1000)) (strictOf s)
-unfolding strictOf
-small-strict s o = small-then _ (judge pusC s) _ (small-judge s) (λ _. small-record s (statedOf s) o)
+unfolding formCheck strictIn
+small-strict s o =
+    small-then _ (formCheck formC) _ (free-if _ _ _ (omega arith) tt) (λ _. small-then _ (judge pusC s) _ (small-judge s) (λ _. small-record s (statedOf s) o))
 
 -- ---- a line
 
@@ -116,7 +118,7 @@ lines-on : (turns : ℕ) (s : List ℕ) (at : ℕ) (x : Next) → Octets s → l
 unfolding linesOf
 lines-on turns s at end o h e on = omega arith
 lines-on turns s at (piece (packet a n v) next) o h e on =
-    let q = step-is s at (packet a n v) next e in
+    let q = step-is strictOf s at (packet a n v) next e in
     let b : a ≡ at = q .0 .begins in
     let i : at + n ≤ length s = q .0 .inside in
     let m : next ≡ at + n = q .1 in
@@ -126,7 +128,7 @@ lines-on turns s at (piece (packet a n v) next) o h e on =
     let rest = on next (omega arith) in
     simp length-append (omega arith)
 lines-on turns s at (piece (tail a n) next) o h e on =
-    let q = step-is s at (tail a n) next e in
+    let q = step-is strictOf s at (tail a n) next e in
     let b : a ≡ at = q .0 .begins in
     let l : 0 < n = q .0 .long in
     let i : at + n ≤ length s = q .0 .inside in
@@ -137,7 +139,7 @@ lines-on turns s at (piece (tail a n) next) o h e on =
     simp length-append (omega arith)
 
 lines-length : (turns : ℕ) (s : List ℕ) (at : ℕ) → Octets s → length s ≤ 65536 → length (linesOf (walkFrom turns s at)) ≤ 4 * (length s - at) + 13
-unfolding walkFrom linesOf
+unfolding walkBy linesOf
 lines-length zero s at o h = omega arith
 lines-length (suc turns) s at o h = lines-on turns s at (stepOf s at) o h refl (λ next _. lines-length turns s next o h)
 

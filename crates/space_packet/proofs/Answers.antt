@@ -52,6 +52,10 @@ pub refuses-then : {A B : Type 0} (a : Answer A) (f : A → Answer B) (e : Numbe
 unfolding _then_
 refuses-then a f e p = ap (λ (z : Answer _). z then f) p
 
+-- what is asked next, of an answer that is known
+pub then-of : {A B : Type 0} (a b : Answer A) (f : A → Answer B) → a ≡ b → (a then f) ≡ (b then f)
+then-of a b f e = ap (λ (x : Answer _). x then f) e
+
 -- a check that passes what another says is that check
 pub then-same : (p : Passed) → (p then λ _. gives tt) ≡ p
 unfolding _then_
@@ -95,7 +99,8 @@ errorOf n =
     (pick (eqb (n .number) 7) (E.FieldRange (getD (n .values) 0 0) (getD (n .values) 1 0))
     (pick (eqb (n .number) 8) E.Reservation
     (pick (eqb (n .number) 9) (E.PacketVersion (getD (n .values) 0 0))
-    (pick (eqb (n .number) 10) E.PacketTypeTm E.NoSecondaryHeader)))))))))
+    (pick (eqb (n .number) 10) E.PacketTypeTm
+    (pick (eqb (n .number) 11) E.NoSecondaryHeader E.SourceWidth))))))))))
 
 pub error-back : (e : PusError) → errorOf (numbersOf e) ≡ e
 unfolding errorOf
@@ -110,6 +115,7 @@ error-back E.Reservation = refl
 error-back (E.PacketVersion n) = refl
 error-back E.PacketTypeTm = refl
 error-back E.NoSecondaryHeader = refl
+error-back E.SourceWidth = refl
 
 pub numbers-inj : (e f : PusError) → numbersOf e ≡ numbersOf f → e ≡ f
 numbers-inj = by-inverse numbersOf errorOf error-back

@@ -49,7 +49,7 @@ word-row w s =
     let e : bits 16 w ≡ bits 8 (w / 256) ++ bits 8 (w % 256) = ap (bits 16) (sym (div-add-mod' w 256)) ∙ bits-split 8 8 (w / 256) (w % 256) (omega arith) in
     rw (e, append-assoc)
 
-last-row : (w : ℕ) → row (be16 w) ≡ bits 16 w
+pub last-row : (w : ℕ) → row (be16 w) ≡ bits 16 w
 unfolding row
 last-row w = word-row w [] ∙ append-nil (bits 16 w)
 

@@ -51,7 +51,7 @@ unfoldable pub setIf : {A : Type 0} → Passed → A → A → Kept A
 setIf (refuses e) old new = record { passed = refuses e; kept = old }
 setIf (gives u) old new = record { passed = gives u; kept = new }
 
--- ---- the numbers of refusal, 1 to 11
+-- ---- the numbers of refusal
 
 abbrev pub bytesNumbers : ByteConversionError → Numbers
 bytesNumbers (ToSliceTooSmall found expected) = refusal 1 (found ∷ expected ∷ [])
@@ -68,6 +68,7 @@ numbersOf E.Reservation = refusal 8 []
 numbersOf (E.PacketVersion number) = refusal 9 (number ∷ [])
 numbersOf E.PacketTypeTm = refusal 10 []
 numbersOf E.NoSecondaryHeader = refusal 11 []
+numbersOf E.SourceWidth = refusal 32 []
 
 -- written out, with 0 for a value that it has not
 abbrev pub inNumbers : Numbers → RefusalNumbers

@@ -36,7 +36,8 @@ pub enum PusError {
     CrcCalculationMissing,
     // 6, with the length of the application data
     PacketTooLong(usize),
-    // 7: place 1 is the packet version number, 2 the APID, 3 the sequence count, 4 the acknowledgement flags
+    // 7: place 1 is the packet version number, 2 the APID, 3 the sequence count, 4 the acknowledgement flags,
+    // 5 the source ID
     FieldRange { place: u8, value: u16 },
     // 8
     Reservation,
@@ -46,6 +47,8 @@ pub enum PusError {
     PacketTypeTm,
     // 11
     NoSecondaryHeader,
+    // 32: a source ID of another width than 0, 8 and 16 bits
+    SourceWidth,
 }
 
 // A refusal in numbers: its own, how many values it has, and these, with 0 for what it has not.
@@ -98,6 +101,7 @@ impl PusError {
             PusError::PacketVersion(version) => in_numbers(9, 1, version as u64, 0),
             PusError::PacketTypeTm => in_numbers(10, 0, 0, 0),
             PusError::NoSecondaryHeader => in_numbers(11, 0, 0, 0),
+            PusError::SourceWidth => in_numbers(32, 0, 0, 0),
         }
     }
 

@@ -1,9 +1,10 @@
 // Telecommands that were read, compared with a creator and with each other: each call takes the octets and the choice of
-// checksum, and reads anew.
+// checksum, and reads anew, as PUS C or, where it ends in `_in`, in the form that is named.
 ghost use mathlib.Core.Path.{_≡_};
-ghost use Rattle.tc_read.specs.Read.{readOf};
-ghost use Rattle.tc_compare.specs.Compare.{equalsCreator, isRead, equalsReader};
+ghost use Rattle.tc_read.specs.Read.{readIn};
+ghost use Rattle.tc_compare.specs.Compare.{equalsCreatorIn, equalsCreator, isRead, equalsReaderIn, equalsReader};
 use ecss::frame;
+use tc_header::TcForm;
 use tc_read::PusTcRecord;
 use tc_read::PusTcRecordResult;
 use tc_write::PusTcCreator;
@@ -12,7 +13,19 @@ use tc_write::PusTcCreator;
 pub fn eq_creator(slice: &[u8], has_checksum: bool, creator: PusTcCreator, data: &[u8]) -> bool
     ensures { λ r. ⌜ r ≡ equalsCreator (now (slice .entry)) «has_checksum» creator (now («data» .entry)) ⌝ }
 {
-    let read = PusTcRecord::new_no_checksum_verification(slice, has_checksum);
+    eq_creator_in(TcForm::PUS_C, slice, has_checksum, creator, data)
+}
+
+pub fn eq_creator_in(
+    form: TcForm,
+    slice: &[u8],
+    has_checksum: bool,
+    creator: PusTcCreator,
+    data: &[u8],
+) -> bool
+    ensures { λ r. ⌜ r ≡ equalsCreatorIn form (now (slice .entry)) «has_checksum» creator (now («data» .entry)) ⌝ }
+{
+    let read = PusTcRecord::new_no_checksum_verification_in(form, slice, has_checksum);
     match read {
         PusTcRecordResult::Err(_) => false,
         PusTcRecordResult::Ok(record) => {
@@ -24,16 +37,16 @@ pub fn eq_creator(slice: &[u8], has_checksum: bool, creator: PusTcCreator, data:
             if !x.eq(creator.sec_header()) {
                 return false;
             }
-            let user = tc_read::app_data(slice, has_checksum);
+            let user = tc_read::app_data_in(form, slice, has_checksum);
             frame::same_octets(user, data)
         }
     }
 }
 
-fn is_read(slice: &[u8], has_checksum: bool) -> bool
-    ensures { λ r. ⌜ r ≡ isRead (readOf (now (slice .entry)) «has_checksum») ⌝ }
+fn is_read(form: TcForm, slice: &[u8], has_checksum: bool) -> bool
+    ensures { λ r. ⌜ r ≡ isRead (readIn form (now (slice .entry)) «has_checksum») ⌝ }
 {
-    let read = PusTcRecord::new_no_checksum_verification(slice, has_checksum);
+    let read = PusTcRecord::new_no_checksum_verification_in(form, slice, has_checksum);
     match read {
         PusTcRecordResult::Err(_) => false,
         PusTcRecordResult::Ok(_) => true,
@@ -44,13 +57,31 @@ fn is_read(slice: &[u8], has_checksum: bool) -> bool
 pub fn eq_reader(slice: &[u8], has_checksum: bool, other: &[u8], other_has_checksum: bool) -> bool
     ensures { λ r. ⌜ r ≡ equalsReader (now (slice .entry)) «has_checksum» (now (other .entry)) «other_has_checksum» ⌝ }
 {
-    if !is_read(slice, has_checksum) {
+    eq_reader_in(
+        TcForm::PUS_C,
+        slice,
+        has_checksum,
+        other,
+        other_has_checksum,
+    )
+}
+
+pub fn eq_reader_in(
+    form: TcForm,
+    slice: &[u8],
+    has_checksum: bool,
+    other: &[u8],
+    other_has_checksum: bool,
+) -> bool
+    ensures { λ r. ⌜ r ≡ equalsReaderIn form (now (slice .entry)) «has_checksum» (now (other .entry)) «other_has_checksum» ⌝ }
+{
+    if !is_read(form, slice, has_checksum) {
         return false;
     }
-    if !is_read(other, other_has_checksum) {
+    if !is_read(form, other, other_has_checksum) {
         return false;
     }
-    let raw = tc_read::raw_data(slice, has_checksum);
-    let other_raw = tc_read::raw_data(other, other_has_checksum);
+    let raw = tc_read::raw_data_in(form, slice, has_checksum);
+    let other_raw = tc_read::raw_data_in(form, other, other_has_checksum);
     frame::same_octets(raw, other_raw)
 }

@@ -7,13 +7,14 @@ use Rattle.space_packet.specs.Header.{readHeader}
 use Rattle.ecss.specs.Frame.{frameOf, checkedOf}
 use Rattle.ecss.specs.Kind.{pusRule, strictRule, readAs, judge}
 use Rattle.ecss_write.specs.Write.{machineTotal, lengthField}
-use Rattle.tc_header.specs.Header.{secOf}
-use Rattle.tc_read.specs.Read.{recordOf, readOf, checkedRead}
-use Rattle.tc_strict.specs.Verdict.{strictOf}
+use Rattle.tc_header.specs.Form.{formCheck}
+use Rattle.tc_header.specs.Header.{tcOf}
+use Rattle.tc_read.specs.Read.{recordIn, frameIn, checkedFrame, readIn, checkedIn}
+use Rattle.tc_strict.specs.Verdict.{strictIn}
 use Rattle.tc_demand3.specs.Cases.{Cases}
 
 pub cases-hold : Cases
-unfolding _⊕_ bit shiftIn run octetBits bitsOf crcFrom refuseIf _then_ idOf pscOf readHeader frameOf checkedOf machineTotal lengthField pusRule strictRule readAs judge secOf recordOf readOf checkedRead strictOf
+unfolding _⊕_ bit shiftIn run octetBits bitsOf crcFrom refuseIf _then_ idOf pscOf readHeader frameOf checkedOf machineTotal lengthField pusRule strictRule readAs judge formCheck tcOf recordIn frameIn checkedFrame readIn checkedIn strictIn
 cases-hold =
     record {
       p1 = refl;
@@ -29,4 +30,8 @@ cases-hold =
       p10 = refl;
       p11 = refl;
       p12 = refl;
+      a-ping = refl;
+      a-nine = refl;
+      a-from-c = refl;
+      a-width = refl;
     }

@@ -1,19 +1,20 @@
--- The cases at the edges, P1 to P12, as one table of what the definitions answer.
+-- The cases at the edges, P1 to P12 of PUS C and four of PUS A, as one table of what the definitions answer.
 use mathlib.Core.Path.{_≡_}
 use mathlib.Core.Bool.{true, false}
 use mathlib.Core.List.{List, [], _∷_, _++_}
-use Prim.Native.Nat.{ℕ}
+use Prim.Native.Nat.{ℕ, _+_, _*_}
 use Rattle.crc_register.specs.Crc.{crcOf}
 use Rattle.space_packet.specs.Answer.{gives, refuses, refusal}
 use Rattle.ecss_write.specs.Write.{lengthField}
-use Rattle.ecss.specs.declared.PusVersion.the-variants.{PusC}
+use Rattle.ecss.specs.declared.PusVersion.the-variants.{PusA, PusC}
 use Rattle.tc_read.specs.Read.{readOf, checkedRead}
 use Rattle.tc_read.specs.declared.PusTcRecord.{PusTcRecord}
 use Rattle.ecss.specs.declared.Crc16.the-variants.{Some, None}
 use Rattle.space_packet.specs.declared.PacketType.the-variants.{Tc}
 use Rattle.space_packet.specs.declared.SequenceFlags.the-variants.{Unsegmented}
 use Rattle.space_packet.specs.declared.SpacePacketHeader.{SpacePacketHeader}
-use Rattle.tc_strict.specs.Verdict.{strictOf}
+use Rattle.tc_header.specs.Form.{formA}
+use Rattle.tc_strict.specs.Verdict.{strictIn, strictOf}
 
 -- a ping command's octets before the checksum, with the length field n: 19 23 C0 05 00 n 2F 11 01 00 00
 abbrev pub ping : ℕ → List ℕ
@@ -48,6 +49,20 @@ pingBare = record {
   crc16 = None;
 }
 
+-- a ping command of PUS A without a source ID, and with the first half of octet 6: 19 23 C0 05 00 04 .F 11 01
+abbrev pub pingA : ℕ → List ℕ
+pingA half = 0x19 ∷ 0x23 ∷ 0xC0 ∷ 0x05 ∷ 0x00 ∷ 0x04 ∷ (half * 16 + 15) ∷ 0x11 ∷ 0x01 ∷ []
+
+abbrev pub pingRecordA : PusTcRecord
+pingRecordA = record {
+  «sp_header» = pingHeader 4;
+  «sec_header» = record { «message_type_id» = record { «type_id» = 17; «subtype_id» = 1 }; «source_id» = 0; «ack_flags» = record { 0 = 15 }; version = PusA };
+  start = 9;
+  end = 9;
+  total = 11;
+  crc16 = Some 0x8A99;
+}
+
 pub record Cases : Type 0 where
   -- the checksum of no octets, of 00, of FF, and of FF FF
   pub p1 : crcOf [] ≡ 0xFFFF
@@ -68,3 +83,9 @@ pub record Cases : Type 0 where
   -- 65,529 octets of data have the largest length field, and 65,530 none
   pub p11 : lengthField 11 true 65529 ≡ gives 65535
   pub p12 : lengthField 11 true 65530 ≡ refuses (refusal 6 (65530 ∷ []))
+  -- PUS A: a ping command in 11 octets is accepted; with the zero bit set it is refused, though its checksum is right; PUS C's ping
+  -- is another version; and a source ID of 9 bits is refused
+  pub a-ping : strictIn (formA 0) (pingA 1 ++ (0x8A ∷ 0x99 ∷ [])) ≡ gives pingRecordA
+  pub a-nine : strictIn (formA 0) (pingA 9 ++ (0xB1 ∷ 0xC3 ∷ [])) ≡ refuses (refusal 3 (9 ∷ []))
+  pub a-from-c : strictIn (formA 16) (ping 6 ++ (0x61 ∷ 0x6D ∷ [])) ≡ refuses (refusal 3 (2 ∷ []))
+  pub a-width : strictIn (formA 9) (pingA 1 ++ (0x8A ∷ 0x99 ∷ [])) ≡ refuses (refusal 32 [])

@@ -1,6 +1,6 @@
--- What the customer asks of the strict verdict. The written rules are `Rules pusC p`, and that octets s begin with the packet of
--- p under them is `BeginsWith pusC s p` (`ecss`, specs/Kind.antt); p is two headers and application data.
-use Prim.Native.Nat.{ℕ, _+_, _≤_}
+-- What the customer asks of the strict verdict, over the form f of the telecommand. The written rules are `Rules (tc f) p`, and that
+-- octets s begin with the packet of p under them is `BeginsWith (tc f) s p` (`ecss`, specs/Kind.antt); p is two headers and data.
+use Prim.Native.Nat.{ℕ, _+_, _-_, _≤_}
 use mathlib.Core.Path.{_≡_}
 use mathlib.Core.Logic.{_↔_}
 use mathlib.Core.Bool.{true}
@@ -16,81 +16,83 @@ use Rattle.ecss.specs.Kind.{Packet, BeginsWith, packetOf, contentOf}
 use Rattle.ecss.specs.declared.Crc16.the-variants.{Some}
 use Rattle.ecss_write.specs.Writer.{packetBy, madeBy}
 use Rattle.reserve.specs.Reserve.{fillIn, filledBy, finishIn, finished}
-use Rattle.tc_header.specs.Header.{pusC}
-use Rattle.tc_write.specs.Command.{commandC}
+use Rattle.tc_header.specs.Header.{tc}
+use Rattle.tc_header.specs.declared.TcForm.{TcForm}
+use Rattle.tc_write.specs.Command.{commandIn}
 use Rattle.tc_header.specs.declared.PusTcSecondaryHeader.{PusTcSecondaryHeader}
-use Rattle.tc_reserved.specs.Reserved.{reservedLeft}
+use Rattle.tc_reserved.specs.Reserved.{reservedLeftIn}
 use Rattle.tc_reserved.specs.declared.PusTcCreatorWithReservedAppData.{PusTcCreatorWithReservedAppData}
-use Rattle.tc_read.specs.Read.{startC}
+use Rattle.tc_read.specs.Read.{startIn}
 use Rattle.tc_read.specs.declared.PusTcRecord.{PusTcRecord}
 use Rattle.exactness.specs.Changed.{Changed}
-use Rattle.tc_strict.specs.Verdict.{strictOf, verdictAnswer}
+use Rattle.tc_strict.specs.Verdict.{strictIn, verdictAnswer}
 use Rattle.tc_strict.specs.declared.Verdict.{Verdict}
 
 -- headers and application data
 abbrev pub Telecommand : Type 0
 Telecommand = Packet PusTcSecondaryHeader
 
--- at most 65,529 octets of data
-abbrev pub AtMost : Telecommand → Type 0
-AtMost p = length (p .user) ≤ 65529
-
--- the octets of its packet
-abbrev pub totalFor : List ℕ → ℕ
-totalFor d = startC + length d + 2
-
--- what is reported of it
-abbrev pub reportFor : Telecommand → PusTcRecord
-reportFor p = record {
-  «sp_header» = p .primary;
-  «sec_header» = p .secondary;
-  start = startC;
-  end = startC + length (p .user);
-  total = totalFor (p .user);
-  crc16 = Some (crcOf (contentOf pusC p));
-}
-
--- ---- what is judged
-
--- the verdict v accepts it and reports it
-abbrev pub Accepts : Verdict → Telecommand → Type 0
-Accepts v p = verdictAnswer v ≡ gives (reportFor p)
-
--- the verdict v on s accepts if and only if s begins with such a packet, and reports that packet
-pub record Exact (v : Verdict) (s : List ℕ) : Type 0 where
-  pub exactly : ((r : PusTcRecord) × (verdictAnswer v ≡ gives r)) ↔ ((p : Telecommand) × BeginsWith pusC s p)
-  pub reports : (p : Telecommand) → BeginsWith pusC s p → Accepts v p
-
 -- where the verdict v accepts s, the verdict w refuses s′, to which s is changed inside its stated total
 abbrev pub RefusesChanged : Verdict → List ℕ → Verdict → List ℕ → Type 0
 RefusesChanged v s w s′ =
     (r : PusTcRecord) → verdictAnswer v ≡ gives r → Changed s s′ (statedOf s) → (n : Numbers) × (verdictAnswer w ≡ refuses n)
 
--- ---- what is written
+module _ (f : TcForm) where
+  -- the most data: of PUS C 65,529 octets
+  abbrev pub AtMost : Telecommand → Type 0
+  AtMost p = length (p .user) ≤ 65542 - startIn f - 2
 
--- the packet that construction, the builder and the reserved writer make of what they are handed
-abbrev pub madeOf : Telecommand → Telecommand
-madeOf p = packetBy (madeBy commandC (p .primary) (p .user)) (p .secondary) (p .user)
+  -- the octets of its packet
+  abbrev pub totalFor : List ℕ → ℕ
+  totalFor d = startIn f + length d + 2
 
--- a buffer with room for the packet, of any length that a slice has
-abbrev pub Fits : List ℕ → List ℕ → Type 0
-Fits d before = totalFor d ≤ length before
+  -- what is reported of it
+  abbrev pub reportFor : Telecommand → PusTcRecord
+  reportFor p = record {
+    «sp_header» = p .primary;
+    «sec_header» = p .secondary;
+    start = startIn f;
+    end = startIn f + length (p .user);
+    total = totalFor (p .user);
+    crc16 = Some (crcOf (contentOf (tc f) p));
+  }
 
-pub record Room (d before : List ℕ) : Type 0 where
-  pub fits : Fits d before
-  pub is-slice : length before ≤ 18446744073709551615
+  -- ---- what is judged
 
--- the reserved writer: the contracts by which the reservation q leaves its headers, the data is filled in behind them, and the
--- finish, in both checksum forms, answers r and leaves `after`
-pub record FinishedBy (q : PusTcCreatorWithReservedAppData) (p : Telecommand) (before : List ℕ) (r : SizeResult) (after : List ℕ) : Type 0 where
-  pub headed : List ℕ
-  pub filled : List ℕ
-  pub reserves : headed ≡ reservedLeft (p .primary) (p .secondary) (length (p .user)) true before
-  pub fills : filled ≡ filledBy (fillIn startC (q .0) (length headed) (length (p .user))) startC (p .user) headed
-  pub finishes : Wrote (finishIn startC (q .0) (length filled)) (finished (q .0) filled) filled r after
+  -- the verdict v accepts it and reports it
+  abbrev pub Accepts : Verdict → Telecommand → Type 0
+  Accepts v p = verdictAnswer v ≡ gives (reportFor p)
 
--- the answer r is the total; `after` is the packet, and behind it what was there before; and it is accepted
-pub record Accepted (p : Telecommand) (before : List ℕ) (r : SizeResult) (after : List ℕ) : Type 0 where
-  pub answers : r ≡ Ok (totalFor (p .user))
-  pub leaves : after ≡ packetOf pusC p ++ drop (totalFor (p .user)) before
-  pub accepted : strictOf after ≡ gives (reportFor p)
+  -- the verdict v on s accepts if and only if s begins with such a packet, and reports that packet
+  pub record Exact (v : Verdict) (s : List ℕ) : Type 0 where
+    pub exactly : ((r : PusTcRecord) × (verdictAnswer v ≡ gives r)) ↔ ((p : Telecommand) × BeginsWith (tc f) s p)
+    pub reports : (p : Telecommand) → BeginsWith (tc f) s p → Accepts v p
+
+  -- ---- what is written
+
+  -- the packet that construction, the builder and the reserved writer make of what they are handed
+  abbrev pub madeOf : Telecommand → Telecommand
+  madeOf p = packetBy (madeBy (commandIn f) (p .primary) (p .user)) (p .secondary) (p .user)
+
+  -- a buffer with room for the packet, of any length that a slice has
+  abbrev pub Fits : List ℕ → List ℕ → Type 0
+  Fits d before = totalFor d ≤ length before
+
+  pub record Room (d before : List ℕ) : Type 0 where
+    pub fits : Fits d before
+    pub is-slice : length before ≤ 18446744073709551615
+
+  -- the reserved writer: the contracts by which the reservation q leaves its headers, the data is filled in behind them, and the
+  -- finish, in both checksum forms, answers r and leaves `after`
+  pub record FinishedBy (q : PusTcCreatorWithReservedAppData) (p : Telecommand) (before : List ℕ) (r : SizeResult) (after : List ℕ) : Type 0 where
+    pub headed : List ℕ
+    pub filled : List ℕ
+    pub reserves : headed ≡ reservedLeftIn f (p .primary) (p .secondary) (length (p .user)) true before
+    pub fills : filled ≡ filledBy (fillIn (startIn (q .form)) (q .held) (length headed) (length (p .user))) (startIn (q .form)) (p .user) headed
+    pub finishes : Wrote (finishIn (startIn (q .form)) (q .held) (length filled)) (finished (q .held) filled) filled r after
+
+  -- the answer r is the total; `after` is the packet, and behind it what was there before; and it is accepted
+  pub record Accepted (p : Telecommand) (before : List ℕ) (r : SizeResult) (after : List ℕ) : Type 0 where
+    pub answers : r ≡ Ok (totalFor (p .user))
+    pub leaves : after ≡ packetOf (tc f) p ++ drop (totalFor (p .user)) before
+    pub accepted : strictIn f after ≡ gives (reportFor p)

@@ -1,7 +1,7 @@
 // What the customer asks of the strict verdict, as theorems: specs/Rules.antt has the words, proofs/Demand3.antt the theorems.
 //
-// Theorems 1, 2, 4 and 5 are also proved here of the calls themselves: the functions below write packets, in either checksum form,
-// and have octets judged. They are there for their contracts, and nothing calls them.
+// Theorems 1, 2, 4 and 5 are also proved here of the calls themselves: the functions below write packets of a form, in either checksum
+// form, and have octets judged. They are there for their contracts, and nothing calls them.
 ghost use mathlib.Core.Path.{_≡_};
 ghost use mathlib.Core.Bool.{true};
 ghost use lib.ListN.{length};
@@ -9,13 +9,16 @@ ghost use Rattle.space_packet.specs.Wrote.{Wrote};
 ghost use Rattle.ecss.specs.Kind.{Rules};
 ghost use Rattle.ecss_write.specs.Writer.{packetBy, Handed};
 ghost use Rattle.reserve.specs.Reserve.{finishIn, finished};
-ghost use Rattle.tc_header.specs.Header.{pusC};
+ghost use Rattle.space_packet.specs.Answer.{gives};
+ghost use Rattle.tc_header.specs.Form.{formCheck};
+ghost use Rattle.tc_header.specs.Header.{tc};
 ghost use Rattle.tc_write.specs.Creator.{PacketWrote};
-ghost use Rattle.tc_read.specs.Read.{startC};
+ghost use Rattle.tc_read.specs.Read.{startIn};
 ghost use Rattle.tc_demand3.specs.Rules.{madeOf, Fits, Accepts, Exact, RefusesChanged};
 use space_packet::SizeResult;
 use space_packet::SpHeader;
 use tc_header::PusTcSecondaryHeader;
+use tc_header::TcForm;
 use tc_reserved::PusTcCreatorWithReservedAppData;
 use tc_reserved::ReservedResult;
 use tc_strict::Verdict;
@@ -25,10 +28,10 @@ use tc_write::PusTcCreatorResult;
 
 // ---- theorems 1 and 2: octets are judged
 
-fn judged(octets: &[u8]) -> Verdict
-    ensures { λ v. ⌜ Exact v (now (octets .entry)) ⌝ }
+fn judged(form: TcForm, octets: &[u8]) -> Verdict
+    ensures { λ v. ⌜ (formCheck form ≡ gives tt → Exact form v (now (octets .entry))) ⌝ }
 {
-    tc_strict::judge(octets)
+    tc_strict::judge_in(form, octets)
 }
 
 // ---- theorem 4: a packet is written, and judged
@@ -43,7 +46,7 @@ fn write(creator: PusTcCreator, app_data: &[u8], buf: &mut [u8], table: bool) ->
 }
 
 fn finish(held: PusTcCreatorWithReservedAppData, buf: &mut [u8], table: bool) -> SizeResult
-    ensures { λ r. ⌜ Wrote (finishIn startC (held .0) (length (now (buf .entry)))) (finished (held .0) (now (buf .entry))) (now (buf .entry)) r (now (buf .exit)) ⌝ }
+    ensures { λ r. ⌜ Wrote (finishIn (startIn (held .form)) (held .held) (length (now (buf .entry)))) (finished (held .held) (now (buf .entry))) (now (buf .entry)) r (now (buf .exit)) ⌝ }
 {
     if table {
         return held.finalize(buf);
@@ -52,18 +55,20 @@ fn finish(held: PusTcCreatorWithReservedAppData, buf: &mut [u8], table: bool) ->
 }
 
 fn written(creator: PusTcCreator, app_data: &[u8], buf: &mut [u8], table: bool) -> Verdict
-    ensures { λ v. ⌜ (creator .«has_checksum» ≡ true → Rules pusC (packetBy (creator .«sp_header») (creator .«sec_header») (now («app_data» .entry)))
-        → Fits (now («app_data» .entry)) (now (buf .entry))
-        → Accepts v (packetBy (creator .«sp_header») (creator .«sec_header») (now («app_data» .entry)))) ⌝ }
+    ensures { λ v. ⌜ (formCheck (creator .form) ≡ gives tt → creator .«has_checksum» ≡ true
+        → Rules (tc (creator .form)) (packetBy (creator .«sp_header») (creator .«sec_header») (now («app_data» .entry)))
+        → Fits (creator .form) (now («app_data» .entry)) (now (buf .entry))
+        → Accepts (creator .form) v (packetBy (creator .«sp_header») (creator .«sec_header») (now («app_data» .entry)))) ⌝ }
 {
     write(creator, app_data, buf, table);
-    tc_strict::judge(buf)
+    tc_strict::judge_in(creator.form(), buf)
 }
 
 fn built(builder: PusTcBuilder, app_data: &[u8], buf: &mut [u8], table: bool) -> Verdict
-    ensures { λ v. ⌜ (builder .0 .«has_checksum» ≡ true → Handed pusC (packetBy (builder .0 .«sp_header») (builder .0 .«sec_header») (now («app_data» .entry)))
-        → Fits (now («app_data» .entry)) (now (buf .entry))
-        → Accepts v (madeOf (packetBy (builder .0 .«sp_header») (builder .0 .«sec_header») (now («app_data» .entry))))) ⌝ }
+    ensures { λ v. ⌜ (formCheck (builder .0 .form) ≡ gives tt → builder .0 .«has_checksum» ≡ true
+        → Handed (tc (builder .0 .form)) (packetBy (builder .0 .«sp_header») (builder .0 .«sec_header») (now («app_data» .entry)))
+        → Fits (builder .0 .form) (now («app_data» .entry)) (now (buf .entry))
+        → Accepts (builder .0 .form) v (madeOf (builder .0 .form) (packetBy (builder .0 .«sp_header») (builder .0 .«sec_header») (now («app_data» .entry))))) ⌝ }
 {
     let made = builder.build(app_data);
     match made {
@@ -73,16 +78,19 @@ fn built(builder: PusTcBuilder, app_data: &[u8], buf: &mut [u8], table: bool) ->
 }
 
 fn reserved(
+    form: TcForm,
     sp_header: SpHeader,
     sec_header: PusTcSecondaryHeader,
     app_data: &[u8],
     buf: &mut [u8],
     table: bool,
 ) -> Verdict
-    ensures { λ v. ⌜ (Handed pusC (packetBy «sp_header» «sec_header» (now («app_data» .entry))) → Fits (now («app_data» .entry)) (now (buf .entry))
-        → Accepts v (madeOf (packetBy «sp_header» «sec_header» (now («app_data» .entry))))) ⌝ }
+    ensures { λ v. ⌜ (formCheck form ≡ gives tt → Handed (tc form) (packetBy «sp_header» «sec_header» (now («app_data» .entry)))
+        → Fits form (now («app_data» .entry)) (now (buf .entry))
+        → Accepts form v (madeOf form (packetBy «sp_header» «sec_header» (now («app_data» .entry))))) ⌝ }
 {
-    let made = PusTcCreatorWithReservedAppData::new(
+    let made = PusTcCreatorWithReservedAppData::new_in(
+        form,
         buf,
         sp_header,
         sec_header,
@@ -94,7 +102,7 @@ fn reserved(
         ReservedResult::Ok(held) => {
             held.fill_app_data(app_data, buf);
             finish(held, buf, table);
-            tc_strict::judge(buf)
+            tc_strict::judge_in(form, buf)
         }
     }
 }
@@ -106,11 +114,11 @@ struct Verdicts {
     received: Verdict,
 }
 
-fn changed(sent: &[u8], received: &[u8]) -> Verdicts
-    ensures { λ r. ⌜ RefusesChanged (r .sent) (now (sent .entry)) (r .received) (now (received .entry)) ⌝ }
+fn changed(form: TcForm, sent: &[u8], received: &[u8]) -> Verdicts
+    ensures { λ r. ⌜ (formCheck form ≡ gives tt → RefusesChanged (r .sent) (now (sent .entry)) (r .received) (now (received .entry))) ⌝ }
 {
-    let first = tc_strict::judge(sent);
-    let second = tc_strict::judge(received);
+    let first = tc_strict::judge_in(form, sent);
+    let second = tc_strict::judge_in(form, received);
     Verdicts {
         sent: first,
         received: second,

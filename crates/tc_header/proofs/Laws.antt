@@ -1,61 +1,67 @@
--- What the PUS-C telecommand owes as a kind of packet.
-use Prim.Native.Nat.{ℕ, _+_, _*_, _/_, _%_}
+-- What a telecommand owes as a kind of packet, for every form that is taken.
+use Prim.Native.Nat.{ℕ, _+_, _*_, _/_, _%_, _≤_}
 use mathlib.Core.Path.{_≡_, refl, sym, ap, _∙_}
-use mathlib.Core.List.{List, [], _∷_}
+use mathlib.Core.List.{List, _∷_}
 use native.Mathlib.Omega.{arith}
-use lib.ListN.{length, getD}
-use lib.Seq.{take-suc, take-all}
-use Rattle.space_packet.specs.Bits.{word}
+use lib.ListN.{length, getD, drop}
+use lib.Seq.{drop-cons}
+use Rattle.space_packet.specs.Answer.{gives}
 use Rattle.ecss.specs.Kind.{KindLaws, Taken}
 use Rattle.ecss.specs.Version.{versionNumber}
-use Rattle.tc_header.specs.Header.{secOctets, secOf, Fits, pusC}
+use Rattle.tc_header.specs.Form.{formCheck, sourceLen}
+use Rattle.tc_header.specs.Header.{tcOctets, tcOf, Fits, tc, pusC}
 use Rattle.tc_header.specs.declared.PusTcSecondaryHeader.{PusTcSecondaryHeader}
+use Rattle.tc_header.specs.declared.TcForm.{TcForm}
+use Rattle.tc_header.proofs.Forms.{taken, taken-c, source-size, source-read, source-within, source-back}
 
-pub length-secOctets : (x : PusTcSecondaryHeader) → length (secOctets x) ≡ 5
-unfolding secOctets
-length-secOctets x = refl
+three : (l : List ℕ) → 3 ≤ length l → getD l 0 0 ∷ getD l 1 0 ∷ getD l 2 0 ∷ drop 3 l ≡ l
+three l e = rw (sym (drop-cons l 2 0 (omega arith)), sym (drop-cons l 1 0 (omega arith)), sym (drop-cons l 0 0 (omega arith)))
 
-dec-enc : (x : PusTcSecondaryHeader) → Fits x → secOf (secOctets x) ≡ x
-unfolding secOctets secOf
-dec-enc x s =
-    let a = s .ack-fits in
-    let k : (versionNumber (x .version) * 16 + x .«ack_flags» .0) % 16 ≡ x .«ack_flags» .0 = omega arith in
-    let n : x .«source_id» / 256 * 256 + x .«source_id» % 256 ≡ x .«source_id» = omega arith in
-    λ i. record { «message_type_id» = x .«message_type_id»; «source_id» = n i; «ack_flags» = record { 0 = k i }; version = sym (s .pus-c) i }
+module _ (f : TcForm) (good : formCheck f ≡ gives tt) where
+  few : sourceLen f ≤ 2
+  few = taken f good .at-most-two
 
-enc-version : (x : PusTcSecondaryHeader) → Fits x → getD (secOctets x) 0 0 / 16 ≡ 2
-unfolding secOctets
-enc-version x s =
-    let a = s .ack-fits in
-    let v = ap versionNumber (s .pus-c) in omega arith
+  pub length-octets : (x : PusTcSecondaryHeader) → length (tcOctets f x) ≡ tc f .size
+  unfolding tcOctets
+  length-octets x = let n = source-size (sourceLen f) (x .«source_id») few in omega arith
 
-dec-fits : (l : List ℕ) → Fits (secOf l)
-unfolding secOf
-dec-fits l = record { pus-c = refl; ack-fits = omega arith }
+  dec-enc : (x : PusTcSecondaryHeader) → Fits f x → tcOf f (tcOctets f x) ≡ x
+  unfolding tcOctets tcOf
+  dec-enc x s =
+      let a = s .ack-fits in
+      let k : (versionNumber (x .version) * 16 + x .«ack_flags» .0) % 16 ≡ x .«ack_flags» .0 = omega arith in
+      let n = source-read (sourceLen f) (x .«source_id») _ _ _ few (s .source-fits) in
+      λ i. record { «message_type_id» = x .«message_type_id»; «source_id» = n i; «ack_flags» = record { 0 = k i }; version = sym (s .version-is) i }
 
-five-octets : (l : List ℕ) → length l ≡ 5 → getD l 0 0 ∷ getD l 1 0 ∷ getD l 2 0 ∷ getD l 3 0 ∷ getD l 4 0 ∷ [] ≡ l
-five-octets l e =
-    rw (sym (take-all 5 l (omega arith)))
-    (rw (take-suc l 4 0 (omega arith), take-suc l 3 0 (omega arith), take-suc l 2 0 (omega arith), take-suc l 1 0 (omega arith), take-suc l 0 0 (omega arith)))
+  enc-version : (x : PusTcSecondaryHeader) → Fits f x → getD (tcOctets f x) 0 0 / 16 ≡ versionNumber (f .version)
+  unfolding tcOctets
+  enc-version x s =
+      let a = s .ack-fits in
+      let v = ap versionNumber (s .version-is) in omega arith
 
--- five octets of version C, read and written again
-pub written-read : (l : List ℕ) → Taken pusC l → secOctets (secOf l) ≡ l
-unfolding secOctets secOf
-written-read l t =
-    let v = t .versioned in
-    let b4 = t .octets 4 in
-    let p0 : 32 + getD l 0 0 % 16 ≡ getD l 0 0 = omega arith in
-    let p3 : word l 3 / 256 ≡ getD l 3 0 = omega arith in
-    let p4 : word l 3 % 256 ≡ getD l 4 0 = omega arith in
-    (λ i. p0 i ∷ getD l 1 0 ∷ getD l 2 0 ∷ p3 i ∷ p4 i ∷ []) ∙ five-octets l (t .sized)
+  dec-fits : (l : List ℕ) → Taken (tc f) l → Fits f (tcOf f l)
+  unfolding tcOf
+  dec-fits l t = record { version-is = refl; ack-fits = omega arith; source-fits = source-within (sourceLen f) l (t .octets) }
 
-pub laws : KindLaws pusC
-laws =
-    record {
-      enc-size = λ x s. length-secOctets x;
-      dec-enc = dec-enc;
-      enc-version = enc-version;
-      rule-enc = λ x s. refl;
-      dec-fits = λ l t. dec-fits l;
-      enc-dec = written-read;
-    }
+  -- octets of the form's version, read and written again
+  pub written-read : (l : List ℕ) → Taken (tc f) l → tcOctets f (tcOf f l) ≡ l
+  unfolding tcOctets tcOf
+  written-read l t =
+      let v = t .versioned in
+      let p : versionNumber (f .version) * 16 + getD l 0 0 % 16 ≡ getD l 0 0 = omega arith in
+      let s = source-back (sourceLen f) l few (t .octets) (t .sized) in
+      (λ i. p i ∷ getD l 1 0 ∷ getD l 2 0 ∷ s i) ∙ three l (omega (arith, t .sized))
+
+  pub laws : KindLaws (tc f)
+  laws =
+      record {
+        enc-size = λ x s. length-octets x;
+        dec-enc = dec-enc;
+        enc-version = enc-version;
+        rule-enc = λ x s. refl;
+        dec-fits = dec-fits;
+        enc-dec = written-read;
+      }
+
+pub laws-c : KindLaws pusC
+laws-c = laws _ taken-c

@@ -1,4 +1,5 @@
 pub mod Checks
+pub mod Forms
 pub mod Laws
 pub mod Determined
 pub mod Flags

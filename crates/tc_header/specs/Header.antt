@@ -1,22 +1,24 @@
--- The secondary header of a PUS-C telecommand. ECSS-E-ST-70-41C, 7.4.4, telecommand packet secondary header.
+-- The secondary header of a telecommand, over its form. ECSS-E-ST-70-41C, 7.4.4, telecommand packet secondary header; ECSS-E-70-41A,
+-- the data field header of telecommand packets.
 use Prim.Native.Nat.{ℕ, _+_, _*_, _/_, _%_, _≤_}
 use mathlib.Core.Path.{_≡_}
 use mathlib.Core.Bool.{Bool, not, _&&_}
 use mathlib.Core.List.{List, [], _∷_, _++_}
 use lib.ListN.{length, getD}
 use lib.Dec.{eqb, ltb}
-use Rattle.space_packet.specs.Bits.{bits, flagNumber, be16, word}
+use Rattle.space_packet.specs.Bits.{bits, flagNumber}
 use Rattle.space_packet.specs.Answer.{Answer, Passed, refusal, gives, refuses, refuseIf, _then_, inRange, numbersOf, inBuffer}
 use Rattle.space_packet.specs.declared.PacketType.the-variants.{Tc}
 use Rattle.ecss.specs.Version.{versionNumber}
 use Rattle.ecss.specs.Kind.{Kind}
 use Rattle.ecss.specs.declared.MessageTypeId.{MessageTypeId}
 use Rattle.ecss.specs.declared.PusVersion.{PusVersion}
-use Rattle.ecss.specs.declared.PusVersion.the-variants.{PusC}
+use Rattle.tc_header.specs.Form.{formC, formCheck, sourceLen, sourceOctets, sourceAt, SourceFits, sourceCheck}
 use Rattle.tc_header.specs.declared.AckFlags.{AckFlags}
 use Rattle.tc_header.specs.declared.AckFlagsResult.{AckFlagsResult}
 use Rattle.tc_header.specs.declared.AckFlagsResult.the-variants as A
 use Rattle.tc_header.specs.declared.PusTcSecondaryHeader.{PusTcSecondaryHeader}
+use Rattle.tc_header.specs.declared.TcForm.{TcForm}
 use Rattle.tc_header.specs.declared.SecHeaderResult.{SecHeaderResult}
 use Rattle.tc_header.specs.declared.SecHeaderResult.the-variants as S
 
@@ -40,18 +42,32 @@ withFlag weight a v =
 
 -- ---- the layout
 
--- TC packet PUS version number 4 bits, acknowledgement flags 4, service type 8, message subtype 8, source ID 16; the
--- standard's row may end in spare bits, and there are none here
-unfoldable pub secRow : PusTcSecondaryHeader → List Bool
-secRow x =
-    bits 4 (versionNumber (x .version)) ++ bits 4 (x .«ack_flags» .0) ++ bits 8 (x .«message_type_id» .«type_id»)
-    ++ bits 8 (x .«message_type_id» .«subtype_id») ++ bits 16 (x .«source_id»)
+-- what both editions draw behind the version: acknowledgement flags 4 bits, service type 8, message subtype 8, source ID as wide as
+-- the form says
+abbrev pub fieldsRow : ℕ → PusTcSecondaryHeader → List Bool
+fieldsRow width x =
+    bits 4 (x .«ack_flags» .0) ++ bits 8 (x .«message_type_id» .«type_id») ++ bits 8 (x .«message_type_id» .«subtype_id»)
+    ++ bits width (x .«source_id»)
 
--- the same in octets; that their bits are that row is the theorem `layout`
-unfoldable pub secOctets : PusTcSecondaryHeader → List ℕ
-secOctets x =
+-- PUS C: TC packet PUS version number 4 bits, source ID 16; the standard's row may end in spare bits, and there are none here
+unfoldable pub secRow : PusTcSecondaryHeader → List Bool
+secRow x = bits 4 (versionNumber (x .version)) ++ fieldsRow 16 x
+
+-- PUS A: a bit that is zero, TC packet PUS version number 3 bits
+unfoldable pub rowA : ℕ → PusTcSecondaryHeader → List Bool
+rowA width x = bits 1 0 ++ bits 3 (versionNumber (x .version)) ++ fieldsRow width x
+
+-- the same in octets, for every form; the theorems `layout` and `layout-a` say that their bits are those rows
+abbrev pub firstOctets : PusTcSecondaryHeader → List ℕ
+firstOctets x =
     (versionNumber (x .version) * 16 + x .«ack_flags» .0) ∷ x .«message_type_id» .«type_id»
-    ∷ x .«message_type_id» .«subtype_id» ∷ be16 (x .«source_id»)
+    ∷ x .«message_type_id» .«subtype_id» ∷ []
+
+unfoldable pub tcOctets : TcForm → PusTcSecondaryHeader → List ℕ
+tcOctets f x = firstOctets x ++ sourceOctets (sourceLen f) (x .«source_id»)
+
+abbrev pub secOctets : PusTcSecondaryHeader → List ℕ
+secOctets = tcOctets formC
 
 abbrev pub secFrom : MessageTypeId → AckFlags → ℕ → PusVersion → PusTcSecondaryHeader
 secFrom m a n v = record { «message_type_id» = m; «source_id» = n; «ack_flags» = a; version = v }
@@ -59,42 +75,75 @@ secFrom m a n v = record { «message_type_id» = m; «source_id» = n; «ack_fla
 abbrev pub messageAt : List ℕ → MessageTypeId
 messageAt l = record { «type_id» = getD l 1 0; «subtype_id» = getD l 2 0 }
 
--- the header that five octets are; its version is always reported as C
-unfoldable pub secOf : List ℕ → PusTcSecondaryHeader
-secOf l = secFrom (messageAt l) (ackOf (getD l 0 0 % 16)) (word l 3) PusC
+-- the header that octets are; its version is always reported as the form's
+unfoldable pub tcOf : TcForm → List ℕ → PusTcSecondaryHeader
+tcOf f l = secFrom (messageAt l) (ackOf (getD l 0 0 % 16)) (sourceAt (sourceLen f) l) (f .version)
+
+abbrev pub secOf : List ℕ → PusTcSecondaryHeader
+secOf = tcOf formC
 
 -- ---- the kind
 
--- only PUS C is written
+-- only the form's version is written
+abbrev pub versionIn : TcForm → PusVersion → Passed
+versionIn f v = refuseIf (not (eqb (versionNumber v) (versionNumber (f .version)))) (refusal 3 (versionNumber v ∷ [])) (gives tt)
+
 abbrev pub versionCheck : PusVersion → Passed
-versionCheck v = refuseIf (not (eqb (versionNumber v) 2)) (refusal 3 (versionNumber v ∷ [])) (gives tt)
+versionCheck = versionIn formC
 
-pub record Fits (x : PusTcSecondaryHeader) : Type 0 where
-  pub pus-c : x .version ≡ PusC
+-- the first field over its width
+abbrev pub fieldsCheck : TcForm → PusTcSecondaryHeader → Passed
+fieldsCheck f x = ackCheck (x .«ack_flags») then λ _. sourceCheck (sourceLen f) (x .«source_id»)
+
+pub record Fits (f : TcForm) (x : PusTcSecondaryHeader) : Type 0 where
+  pub version-is : x .version ≡ f .version
   pub ack-fits : x .«ack_flags» .0 ≤ 15
+  pub source-fits : SourceFits (sourceLen f) (x .«source_id»)
 
--- telecommands, version 2, whose secondary header has five octets; the strict checks ask nothing more
-abbrev pub pusC : Kind PusTcSecondaryHeader
-pusC = record {
+-- telecommands of a form; the strict checks ask nothing more than every kind's
+abbrev pub tc : TcForm → Kind PusTcSecondaryHeader
+tc f = record {
   type = Tc;
   other = refusal 10 [];
-  version = 2;
-  size = 5;
-  enc = secOctets;
-  dec = secOf;
+  version = versionNumber (f .version);
+  size = 3 + sourceLen f;
+  enc = tcOctets f;
+  dec = tcOf f;
   rule = λ l. gives tt;
-  Fits = Fits;
+  Fits = Fits f;
 }
+
+-- PUS C: version 2, and a secondary header of five octets
+abbrev pub pusC : Kind PusTcSecondaryHeader
+pusC = tc formC
 
 -- ---- the calls
 
--- write_to_slice, on a buffer of n octets
-unfoldable pub secWrite : PusTcSecondaryHeader → ℕ → Answer ℕ
-secWrite x n = ackCheck (x .«ack_flags») then λ _. inBuffer n 5 then λ _. versionCheck (x .version) then λ _. gives 5
+-- the form, and the fields in it: 32, 7
+abbrev pub widthsCheck : TcForm → PusTcSecondaryHeader → Passed
+widthsCheck f x = formCheck f then λ _. fieldsCheck f x
 
--- from_be_bytes
-unfoldable pub secRead : List ℕ → Answer PusTcSecondaryHeader
-secRead s = refuseIf (ltb (length s) 5) (refusal 2 (length s ∷ 5 ∷ [])) (gives (secOf s))
+-- new_in: 32, 7
+abbrev pub secMade : TcForm → PusTcSecondaryHeader → Answer PusTcSecondaryHeader
+secMade f x = widthsCheck f x then λ _. gives x
+
+-- what write_to_slice_in asks, on a buffer of n octets: 32, 7, 1, 3
+unfoldable pub secChecks : TcForm → PusTcSecondaryHeader → ℕ → Passed
+secChecks f x n = widthsCheck f x then λ _. inBuffer n (tc f .size) then λ _. versionIn f (x .version)
+
+unfoldable pub secWriteIn : TcForm → PusTcSecondaryHeader → ℕ → Answer ℕ
+secWriteIn f x n = secChecks f x n then λ _. gives (tc f .size)
+
+abbrev pub secWrite : PusTcSecondaryHeader → ℕ → Answer ℕ
+secWrite = secWriteIn formC
+
+-- from_be_bytes_in: 32, 2
+unfoldable pub secReadIn : TcForm → List ℕ → Answer PusTcSecondaryHeader
+secReadIn f s =
+    formCheck f then λ _. refuseIf (ltb (length s) (tc f .size)) (refusal 2 (length s ∷ tc f .size ∷ [])) (gives (tcOf f s))
+
+abbrev pub secRead : List ℕ → Answer PusTcSecondaryHeader
+secRead = secReadIn formC
 
 abbrev pub secAnswer : SecHeaderResult → Answer PusTcSecondaryHeader
 secAnswer (S.Ok x) = gives x

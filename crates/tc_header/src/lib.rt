@@ -1,26 +1,30 @@
-// The secondary header of a PUS-C telecommand after ECSS-E-ST-70-41C, and its acknowledgement flags.
+// The secondary header of a telecommand after ECSS-E-ST-70-41C and, for PUS A, ECSS-E-70-41A; its form, and its acknowledgement
+// flags. The calls named after the Rust have PUS C; their siblings, which end in `_in`, take a form.
 ghost use mathlib.Core.Path.{_≡_};
 ghost use mathlib.Core.List.{_++_};
 ghost use Prim.Native.Nat.{_+_, _*_, _/_, _%_, _<_, _≤_};
-ghost use lib.ListN.{length, getD, drop};
+ghost use lib.ListN.{length, getD, take, drop};
 ghost use Rattle.space_packet.specs.Bits.{lowest};
-ghost use Rattle.space_packet.specs.Answer.{gives, _then_, inRange, checkAnswer, inBuffer};
+ghost use Rattle.space_packet.specs.Answer.{gives, _then_, inRange, checkAnswer};
 ghost use Rattle.space_packet.specs.Wrote.{Wrote};
-ghost use Rattle.ecss.specs.Kind.{startOf, strictRule};
+ghost use Rattle.ecss.specs.Kind.{startOf, secondaryOf, strictRule};
 ghost use Rattle.ecss.specs.declared.PusVersion.the-variants.{PusC};
-ghost use Rattle.tc_header.specs.Header.{ackCheck, ackOf, ackAnswer, withFlag, secOctets, secFrom, versionCheck, secWrite, secRead, secAnswer, sameSec, pusC};
+ghost use Rattle.tc_header.specs.Form.{formA, formCheck, sourceLen, sourceOctets, sourceAt, sourceCheck, sameForm};
+ghost use Rattle.tc_header.specs.Header.{ackCheck, ackOf, ackAnswer, withFlag, firstOctets, tcOctets, secOctets, secFrom, versionIn, versionCheck, fieldsCheck, widthsCheck, secMade, secChecks, secWriteIn, secWrite, secReadIn, secRead, secAnswer, sameSec, tc, pusC};
 use ecss::MessageTypeId;
 use ecss::PusError;
 use ecss::PusVersion;
+use ecss::frame;
 use space_packet::ByteConversionError;
+use space_packet::CCSDS_HEADER_LEN;
 use space_packet::CheckResult;
 use space_packet::PacketType;
 use space_packet::SizeResult;
 use space_packet::SpHeader;
 
-// Length of the secondary header.
+// Length of the secondary header of PUS C.
 pub const PUC_TC_SECONDARY_HEADER_LEN: usize = 5;
-// Least length of a telecommand, with no data and no checksum.
+// Least length of a telecommand of PUS C, with no data and no checksum.
 pub const PUS_TC_MIN_LEN_WITHOUT_APP_DATA: usize = 11;
 
 // Holds that length to the octet at which the data starts, and is there for its contract.
@@ -28,6 +32,145 @@ fn min_len() -> usize
     ensures { λ r. ⌜ r ≡ startOf pusC ⌝ }
 {
     PUS_TC_MIN_LEN_WITHOUT_APP_DATA
+}
+
+// ---- the form
+
+// The edition of a telecommand, and with it the width of its source ID in bits.
+pub struct TcForm {
+    version: PusVersion,
+    source_width: u8,
+}
+
+impl TcForm {
+    // The longest secondary header of a form that is taken.
+    pub const MAX_SEC_HEADER_LEN: usize = PUC_TC_SECONDARY_HEADER_LEN;
+
+    // ECSS-E-ST-70-41C: a source ID of 16 bits.
+    pub const PUS_C: TcForm = TcForm {
+        version: PusVersion::PusC,
+        source_width: 16,
+    };
+
+    // ECSS-E-70-41A: a source ID of 0, 8 or 16 bits, as the mission fixes it. Another width is refused where the form is used.
+    pub fn pus_a(source_width: u8) -> TcForm
+        ensures { λ r. ⌜ r ≡ formA «source_width» ⌝ }
+    {
+        TcForm {
+            version: PusVersion::PusA,
+            source_width,
+        }
+    }
+
+    pub fn version(self) -> PusVersion
+        ensures { λ r. ⌜ r ≡ self .version ⌝ }
+    {
+        self.version
+    }
+
+    pub fn source_width(self) -> u8
+        ensures { λ r. ⌜ r ≡ self .«source_width» ⌝ }
+    {
+        self.source_width
+    }
+
+    // 32 for another width than 0, 8 and 16.
+    pub fn check(self) -> CheckResult
+        ensures { λ r. ⌜ checkAnswer r ≡ formCheck self ⌝ }
+    {
+        let w = self.source_width;
+        if w == 16 {
+            return CheckResult::Ok;
+        }
+        if w == 8 {
+            return CheckResult::Ok;
+        }
+        if w == 0 {
+            return CheckResult::Ok;
+        }
+        CheckResult::Err(PusError::SourceWidth)
+    }
+
+    // Length of the secondary header.
+    pub fn sec_header_len(self) -> usize
+        ensures { λ r. ⌜ r ≡ tc self .size ⌝ }
+    {
+        3 + (self.source_width / 8) as usize
+    }
+
+    // Least length of a telecommand, with no data and no checksum: the octet at which the data starts.
+    pub fn min_len_without_app_data(self) -> usize
+        ensures { λ r. ⌜ r ≡ startOf (tc self) ⌝ }
+    {
+        CCSDS_HEADER_LEN + self.sec_header_len()
+    }
+
+    // The octets of the secondary header in a packet; fewer where the packet is shorter.
+    pub fn sec_header_part(self, packet: &[u8]) -> &[u8]
+        ensures { λ r. ⌜ now r ≡ secondaryOf (tc self .size) (now (packet .entry)) ⌝ }
+    {
+        if packet.len() < CCSDS_HEADER_LEN {
+            return &packet[..0];
+        }
+        frame::front(&packet[CCSDS_HEADER_LEN..], self.sec_header_len())
+    }
+
+    // Whether the edition and the width are the same.
+    pub fn eq(self, other: TcForm) -> bool
+        ensures { λ r. ⌜ r ≡ sameForm self other ⌝ }
+    {
+        let v = self.version;
+        let w = other.version;
+        (v.raw_value() == w.raw_value()) & (self.source_width == other.source_width)
+    }
+
+    // What a setter and a write ask of a source ID: 7 where it is over its width.
+    pub fn check_source_id(self, source_id: u16) -> CheckResult
+        ensures { λ r. ⌜ checkAnswer r ≡ sourceCheck (sourceLen self) «source_id» ⌝ }
+    {
+        let n = self.source_width / 8;
+        if 1 < n {
+            return CheckResult::Ok;
+        }
+        if n as u16 * 255 < source_id {
+            return CheckResult::Err(PusError::FieldRange {
+                place: 5,
+                value: source_id,
+            });
+        }
+        CheckResult::Ok
+    }
+
+    // The source ID that stands at octet 3; 0 where it has no octet.
+    fn source_at(self, s: &[u8]) -> u16
+        requires { ⌜ 3 + sourceLen self ≤ length (now s) ⌝ }
+        ensures { λ r. ⌜ r ≡ sourceAt (sourceLen self) (now (s .entry)) ⌝ }
+    {
+        let n = self.source_width / 8;
+        if 1 < n {
+            return space_packet::word_at(s, 3);
+        }
+        if n == 1 {
+            return s[3] as u16;
+        }
+        0
+    }
+
+    // Writes the source ID behind three octets.
+    fn put_source(self, source_id: u16, buf: &mut [u8])
+        requires { ⌜ (sourceLen self ≤ 2) × (3 + sourceLen self ≤ length (now buf)) ⌝ }
+        ensures { λ _. ⌜ now (buf .exit) ≡ take 3 (now (buf .entry)) ++ sourceOctets (sourceLen self) «source_id» ++ drop (3 + sourceLen self) (now (buf .entry)) ⌝ }
+    {
+        let n = self.source_width / 8;
+        if 1 < n {
+            buf[3] = (source_id / 256) as u8;
+            buf[4] = (source_id % 256) as u8;
+            return;
+        }
+        if n == 1 {
+            buf[3] = (source_id % 256) as u8;
+        }
+    }
 }
 
 // ---- the acknowledgement flags
@@ -180,6 +323,36 @@ impl PusTcSecondaryHeader {
         }
     }
 
+    // With the form's version; 32, 7.
+    pub fn new_in(
+        form: TcForm,
+        message_type_id: MessageTypeId,
+        ack_flags: AckFlags,
+        source_id: u16,
+    ) -> SecHeaderResult
+        ensures { λ r. ⌜ secAnswer r ≡ secMade form (secFrom «message_type_id» «ack_flags» «source_id» (form .version)) ⌝ }
+    {
+        let version = form.version;
+        let made = PusTcSecondaryHeader {
+            message_type_id,
+            source_id,
+            ack_flags,
+            version,
+        };
+        let c = made.check_widths(form);
+        if let CheckResult::Err(e) = c {
+            return SecHeaderResult::Err(e);
+        }
+        SecHeaderResult::Ok(made)
+    }
+
+    // All four acknowledgements, and source 0; 32.
+    pub fn new_simple_in(form: TcForm, message_type_id: MessageTypeId) -> SecHeaderResult
+        ensures { λ r. ⌜ secAnswer r ≡ secMade form (secFrom «message_type_id» (ackOf 15) 0 (form .version)) ⌝ }
+    {
+        PusTcSecondaryHeader::new_in(form, message_type_id, AckFlags::ALL, 0)
+    }
+
     pub fn pus_version(self) -> PusVersion
         ensures { λ r. ⌜ r ≡ self .version ⌝ }
     {
@@ -220,12 +393,43 @@ impl PusTcSecondaryHeader {
     pub fn check_version(self) -> CheckResult
         ensures { λ r. ⌜ checkAnswer r ≡ versionCheck (self .version) ⌝ }
     {
+        self.check_version_in(TcForm::PUS_C)
+    }
+
+    // 3 for another version than the form's.
+    pub fn check_version_in(self, form: TcForm) -> CheckResult
+        ensures { λ r. ⌜ checkAnswer r ≡ versionIn form (self .version) ⌝ }
+    {
         let version = self.version;
         let number = version.raw_value();
-        if number != 2 {
+        let own = form.version;
+        if number != own.raw_value() {
             return CheckResult::Err(PusError::VersionNotSupported(number));
         }
         CheckResult::Ok
+    }
+
+    // What a setter and a write ask of its fields: 7 where one is over its width.
+    pub fn check_fields_in(self, form: TcForm) -> CheckResult
+        ensures { λ r. ⌜ checkAnswer r ≡ fieldsCheck form self ⌝ }
+    {
+        let ack = self.ack_flags;
+        let c = ack.check();
+        let CheckResult::Ok = c else {
+            return c;
+        };
+        form.check_source_id(self.source_id)
+    }
+
+    // The form, then the fields; 32, 7.
+    fn check_widths(self, form: TcForm) -> CheckResult
+        ensures { λ r. ⌜ checkAnswer r ≡ widthsCheck form self ⌝ }
+    {
+        let c = form.check();
+        let CheckResult::Ok = c else {
+            return c;
+        };
+        self.check_fields_in(form)
     }
 
     // Whether every field is the same.
@@ -246,59 +450,88 @@ impl PusTcSecondaryHeader {
     pub fn from_be_bytes(s: &[u8]) -> SecHeaderResult
         ensures { λ r. ⌜ secAnswer r ≡ secRead (now (s .entry)) ⌝ }
     {
-        if s.len() < PusTcSecondaryHeader::HEADER_LEN {
-            return SecHeaderResult::Err(PusError::ByteConversion(ByteConversionError::FromSliceTooSmall {
-                found: s.len(),
-                expected: PusTcSecondaryHeader::HEADER_LEN,
-            }));
-        }
-        SecHeaderResult::Ok(PusTcSecondaryHeader::new(
-            MessageTypeId::new(s[1], s[2]),
-            AckFlags(s[0] % 16),
-            space_packet::word_at(s, 3),
-        ))
+        PusTcSecondaryHeader::from_be_bytes_in(TcForm::PUS_C, s)
     }
 
-    // What a write into that many octets asks: 7, 1, 3.
-    fn check(self, room: usize) -> CheckResult
-        ensures { λ r. ⌜ checkAnswer r ≡ (ackCheck (self .«ack_flags») then λ _. inBuffer room 5 then λ _. versionCheck (self .version)) ⌝ }
+    // The header that as many octets are as the form has; 32, 2. The version is always the form's.
+    pub fn from_be_bytes_in(form: TcForm, s: &[u8]) -> SecHeaderResult
+        ensures { λ r. ⌜ secAnswer r ≡ secReadIn form (now (s .entry)) ⌝ }
     {
-        let ack = self.ack_flags;
-        let c = ack.check();
+        let c = form.check();
+        if let CheckResult::Err(e) = c {
+            return SecHeaderResult::Err(e);
+        }
+        let expected = form.sec_header_len();
+        if s.len() < expected {
+            return SecHeaderResult::Err(PusError::ByteConversion(ByteConversionError::FromSliceTooSmall {
+                found: s.len(),
+                expected,
+            }));
+        }
+        let ack = s[0] % 16;
+        let reported = form.version;
+        SecHeaderResult::Ok(PusTcSecondaryHeader {
+            message_type_id: MessageTypeId::new(s[1], s[2]),
+            source_id: form.source_at(s),
+            ack_flags: AckFlags(ack),
+            version: reported,
+        })
+    }
+
+    // What a write into that many octets asks; 32, 7, 1, 3.
+    fn check(self, form: TcForm, room: usize) -> CheckResult
+        ensures { λ r. ⌜ checkAnswer r ≡ secChecks form self room ⌝ }
+    {
+        let c = self.check_widths(form);
         let CheckResult::Ok = c else {
             return c;
         };
-        if room < PusTcSecondaryHeader::HEADER_LEN {
+        let expected = form.sec_header_len();
+        if room < expected {
             return CheckResult::Err(PusError::ByteConversion(ByteConversionError::ToSliceTooSmall {
                 found: room,
-                expected: PusTcSecondaryHeader::HEADER_LEN,
+                expected,
             }));
         }
-        self.check_version()
+        self.check_version_in(form)
     }
 
     // Writes the five octets; 7, 1, 3.
     pub fn write_to_slice(self, buf: &mut [u8]) -> SizeResult
         ensures { λ r. ⌜ Wrote (secWrite self (length (now (buf .entry)))) (secOctets self) (now (buf .entry)) r (now (buf .exit)) ⌝ }
     {
-        let c = self.check(buf.len());
+        self.write_to_slice_in(TcForm::PUS_C, buf)
+    }
+
+    // Writes as many octets as the form has; 32, 7, 1, 3.
+    pub fn write_to_slice_in(self, form: TcForm, buf: &mut [u8]) -> SizeResult
+        ensures { λ r. ⌜ Wrote (secWriteIn form self (length (now (buf .entry)))) (tcOctets form self) (now (buf .entry)) r (now (buf .exit)) ⌝ }
+    {
+        let c = self.check(form, buf.len());
         if let CheckResult::Err(e) = c {
             return SizeResult::Err(e);
         }
-        self.put(buf);
-        SizeResult::Ok(PusTcSecondaryHeader::HEADER_LEN)
+        self.put(form, buf);
+        SizeResult::Ok(form.sec_header_len())
     }
 
-    fn put(self, buf: &mut [u8])
-        requires { ⌜ (self .«ack_flags» .0 ≤ 15) × (self .version ≡ PusC) × (5 ≤ length (now buf)) ⌝ }
-        ensures { λ _. ⌜ now (buf .exit) ≡ secOctets self ++ drop 5 (now (buf .entry)) ⌝ }
+    fn put(self, form: TcForm, buf: &mut [u8])
+        requires { ⌜ (self .«ack_flags» .0 ≤ 15) × ((sourceLen form ≤ 2) × (tc form .size ≤ length (now buf))) ⌝ }
+        ensures { λ _. ⌜ now (buf .exit) ≡ tcOctets form self ++ drop (tc form .size) (now (buf .entry)) ⌝ }
     {
-        let source = self.source_id;
-        buf[0] = 32 + self.ack_flags.0;
+        self.put_first(buf);
+        form.put_source(self.source_id, buf);
+    }
+
+    // Writes the three octets before the source ID.
+    fn put_first(self, buf: &mut [u8])
+        requires { ⌜ (self .«ack_flags» .0 ≤ 15) × (3 ≤ length (now buf)) ⌝ }
+        ensures { λ _. ⌜ now (buf .exit) ≡ firstOctets self ++ drop 3 (now (buf .entry)) ⌝ }
+    {
+        let version = self.version;
+        buf[0] = version.raw_value() * 16 + self.ack_flags.0;
         buf[1] = self.message_type_id.type_id;
         buf[2] = self.message_type_id.subtype_id;
-        buf[3] = (source / 256) as u8;
-        buf[4] = (source % 256) as u8;
     }
 }
 
@@ -312,15 +545,15 @@ fn first_octet(s: &[u8]) -> u8
     s[0]
 }
 
-// The strict checks of a PUS-C telecommand, on its primary header and its secondary header's octets; 9, 10, 11, 3.
-pub fn strict_rule(h: SpHeader, second: &[u8]) -> CheckResult
-    ensures { λ r. ⌜ checkAnswer r ≡ strictRule pusC h (now (second .entry)) ⌝ }
+// The strict checks of a telecommand, on its primary header and its secondary header's octets; 9, 10, 11, 3.
+pub fn strict_rule(form: TcForm, h: SpHeader, second: &[u8]) -> CheckResult
+    ensures { λ r. ⌜ checkAnswer r ≡ strictRule (tc form) h (now (second .entry)) ⌝ }
 {
-    let version = PusVersion::PusC;
+    let edition = form.version;
     ecss::pus_rule(
         PacketType::Tc,
         PusError::PacketTypeTm,
-        version.raw_value(),
+        edition.raw_value(),
         h,
         first_octet(second),
     )

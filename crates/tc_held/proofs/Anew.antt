@@ -12,9 +12,11 @@ use Rattle.space_packet.specs.Header.{readHeader}
 use Rattle.space_packet.proofs.Answers.{refuse-yes, gives-then, refuses-then}
 use Rattle.ecss.specs.Frame.{trailer, frameOf, rawPart, dataPart, sameOctets}
 use Rattle.ecss.proofs.Frames.{frame-total, total-frame}
-use Rattle.tc_header.specs.Header.{secOf}
+use Rattle.tc_header.specs.Form.{formC}
+use Rattle.tc_header.specs.Header.{tcOf}
 use Rattle.tc_write.specs.declared.PusTcCreator.{PusTcCreator}
-use Rattle.tc_read.specs.Read.{startC, recordOf, crcTaken, readOf, appData, rawData}
+use Rattle.tc_read.specs.Read.{startC, recordIn, crcTaken, frameIn, readIn, readOf, appData, rawData}
+use Rattle.tc_read.proofs.Records.{frame-c}
 use Rattle.tc_compare.specs.Compare.{isRead, reportsCreator, equalsCreator, equalsReader}
 use Rattle.ecss.specs.declared.Crc16.the-variants.{Some}
 use Rattle.tc_held.specs.Held.{Held, primaryIn, secondaryIn, heldOf}
@@ -40,11 +42,11 @@ crc-take : (b : Bool) (n : ℕ) (s : List ℕ) → 2 ≤ n → crcTaken b (take 
 crc-take true n s h = ap Some (word-take n s (n - 2) (omega arith))
 crc-take false n s h = refl
 
-record-take : (b : Bool) (n : ℕ) (s : List ℕ) → startC ≤ n → n ≤ length s → recordOf (take n s) b n ≡ recordOf s b n
-unfolding recordOf
+record-take : (b : Bool) (n : ℕ) (s : List ℕ) → startC ≤ n → n ≤ length s → recordIn formC (take n s) b n ≡ recordIn formC s b n
+unfolding recordIn
 record-take b n s h f =
     let x = header-take n s (omega arith) in
-    let y = ap secOf (part-take 6 5 n s h f) in
+    let y = ap (tcOf formC) (part-take 6 5 n s h f) in
     let z = crc-take b n s (omega arith) in
     λ i. record { «sp_header» = x i; «sec_header» = y i; start = startC; end = n - trailer b; total = n; crc16 = z i }
 
@@ -57,14 +59,14 @@ pub record Alike (b : Bool) (r s : List ℕ) : Type 0 where
   pub is-read : isRead (readOf r b) ≡ isRead (readOf s b)
   pub compared : (t : PusTcCreator) (d : List ℕ) → equalsCreator r b t d ≡ equalsCreator s b t d
 
-given-alike : (b : Bool) (n : ℕ) (s : List ℕ) → frameOf startC s b ≡ gives n → Alike b (take n s) s
-unfolding readOf
+given-alike : (b : Bool) (n : ℕ) (s : List ℕ) → frameIn formC s b ≡ gives n → Alike b (take n s) s
+unfolding readIn
 given-alike b n s p =
-    let f = frame-total startC s b n p in
+    let f = frame-total startC s b n (sym (frame-c s b) ∙ p) in
     let h : startC + trailer b ≤ n = f .room in
     let k : n ≤ length s = f .fits in
     let l = length-take-le n s k in
-    let q : frameOf startC (take n s) b ≡ gives n = total-frame startC (take n s) b n (record { is = f .is ∙ sym (ap (λ (x : ℕ). x + 7) (word-take n s 4 (omega arith))); room = h; fits = omega (arith, l) }) in
+    let q : frameIn formC (take n s) b ≡ gives n = frame-c (take n s) b ∙ total-frame startC (take n s) b n (record { is = f .is ∙ sym (ap (λ (x : ℕ). x + 7) (word-take n s 4 (omega arith))); room = h; fits = omega (arith, l) }) in
     let x : readOf (take n s) b ≡ readOf s b =
     gives-then _ _ n q ∙ ap gives (record-take b n s (omega arith) k) ∙ sym (gives-then _ _ n p) in
     let y : rawData (take n s) b ≡ rawData s b =
@@ -78,16 +80,16 @@ given-alike b n s p =
       compared = λ t d i. reportsCreator (x i) (z i) t d;
     }
 
-empty-refused : (b : Bool) → frameOf startC [] b ≡ refuses (refusal 2 (0 ∷ startC ∷ []))
+empty-refused : (b : Bool) → frameIn formC [] b ≡ refuses (refusal 2 (0 ∷ startC ∷ []))
 unfolding frameOf
-empty-refused b = refuse-yes _ _ _ refl
+empty-refused b = frame-c [] b ∙ refuse-yes _ _ _ refl
 
 -- all octets that are refused are alike
-refused-alike : (b : Bool) (r s : List ℕ) (d e : Numbers) → frameOf startC r b ≡ refuses d → frameOf startC s b ≡ refuses e → Alike b r s
-unfolding readOf
+refused-alike : (b : Bool) (r s : List ℕ) (d e : Numbers) → frameIn formC r b ≡ refuses d → frameIn formC s b ≡ refuses e → Alike b r s
+unfolding readIn
 refused-alike b r s d e p q =
-    let x = refuses-then (frameOf startC r b) (λ n. gives (recordOf r b n)) d p in
-    let y = refuses-then (frameOf startC s b) (λ n. gives (recordOf s b n)) e q in
+    let x = refuses-then (frameIn formC r b) (λ n. gives (recordIn formC r b n)) d p in
+    let y = refuses-then (frameIn formC s b) (λ n. gives (recordIn formC s b n)) e q in
     record {
       held = rw (x, y, p, q) refl;
       app = rw (p, q) refl;
@@ -95,13 +97,13 @@ refused-alike b r s d e p q =
       compared = λ t o. rw (x, y) refl;
     }
 
-alike-by : (b : Bool) (s : List ℕ) (a : Answer ℕ) → frameOf startC s b ≡ a → Alike b (rawPart a s) s
+alike-by : (b : Bool) (s : List ℕ) (a : Answer ℕ) → frameIn formC s b ≡ a → Alike b (rawPart a s) s
 alike-by b s (gives n) p = given-alike b n s p
 alike-by b s (refuses e) p = refused-alike b [] s _ e (empty-refused b) p
 
 -- what a reader holds is read as the octets that it was made from
 pub alike : (b : Bool) (s : List ℕ) → Alike b (rawData s b) s
-alike b s = alike-by b s (frameOf startC s b) refl
+alike b s = alike-by b s (frameIn formC s b) refl
 
 -- ---- the calls on a reader of octets s, in the terms of s
 

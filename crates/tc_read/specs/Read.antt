@@ -1,21 +1,28 @@
--- PUS-C telecommands read: what is reported of octets, and the parts handed out.
-use Prim.Native.Nat.{ℕ, _-_}
+-- Telecommands read, over their form: what is reported of octets, and the parts handed out.
+use Prim.Native.Nat.{ℕ, _+_, _-_, _≤_}
+use mathlib.Core.Path.{_≡_}
 use mathlib.Core.Bool.{Bool, true, false}
 use mathlib.Core.List.{List}
+use lib.ListN.{length}
 use Rattle.space_packet.specs.Answer.{Answer, gives, refuses, _then_, numbersOf}
 use Rattle.space_packet.specs.Header.{readHeader}
 use Rattle.ecss.specs.Frame.{trailer, frameOf, checkedOf, storedOf, rawPart, dataPart}
 use Rattle.ecss.specs.Kind.{secondaryOf, startOf}
-use Rattle.tc_header.specs.Header.{secOf, pusC}
+use Rattle.tc_header.specs.Form.{formC, formCheck}
+use Rattle.tc_header.specs.Header.{tcOf, tc}
+use Rattle.tc_header.specs.declared.TcForm.{TcForm}
 use Rattle.ecss.specs.declared.Crc16.{Crc16}
 use Rattle.ecss.specs.declared.Crc16.the-variants.{Some, None}
 use Rattle.tc_read.specs.declared.PusTcRecord.{PusTcRecord}
 use Rattle.tc_read.specs.declared.PusTcRecordResult.{PusTcRecordResult}
 use Rattle.tc_read.specs.declared.PusTcRecordResult.the-variants as R
 
--- where the data of a PUS-C telecommand starts
+-- where the data starts, and of PUS C
+abbrev pub startIn : TcForm → ℕ
+startIn f = startOf (tc f)
+
 abbrev pub startC : ℕ
-startC = startOf pusC
+startC = startIn formC
 
 -- the checksum of a packet of n octets, where it is taken
 abbrev pub crcTaken : Bool → List ℕ → ℕ → Crc16
@@ -26,12 +33,18 @@ abbrev pub hasCrc : Crc16 → Bool
 hasCrc (Some n) = true
 hasCrc None = false
 
+-- octets that hold a packet of n octets of a form that is taken
+pub record Framed (f : TcForm) (b : Bool) (s : List ℕ) (n : ℕ) : Type 0 where
+  pub good : formCheck f ≡ gives tt
+  pub room : startIn f + trailer b ≤ n
+  pub fits : n ≤ length s
+
 -- what is reported of a packet of n octets: both headers, where its data lies, its total, and the checksum where it is taken
-unfoldable pub recordOf : List ℕ → Bool → ℕ → PusTcRecord
-recordOf s b n = record {
+unfoldable pub recordIn : TcForm → List ℕ → Bool → ℕ → PusTcRecord
+recordIn f s b n = record {
   «sp_header» = readHeader s;
-  «sec_header» = secOf (secondaryOf (pusC .size) s);
-  start = startC;
+  «sec_header» = tcOf f (secondaryOf (tc f .size) s);
+  start = startIn f;
   end = n - trailer b;
   total = n;
   crc16 = crcTaken b s n;
@@ -41,17 +54,38 @@ abbrev pub recordAnswer : PusTcRecordResult → Answer PusTcRecord
 recordAnswer (R.Ok r) = gives r
 recordAnswer (R.Err e) = refuses (numbersOf e)
 
+-- the total of the packet that octets begin with, for the choice of checksum: 32, 2; and where it is compared: 32, 2, 4
+unfoldable pub frameIn : TcForm → List ℕ → Bool → Answer ℕ
+frameIn f s b = formCheck f then λ _. frameOf (startIn f) s b
+
+unfoldable pub checkedFrame : TcForm → List ℕ → Answer ℕ
+checkedFrame f s = formCheck f then λ _. checkedOf (startIn f) s
+
 -- read with the choice of checksum, which is taken and not compared
-unfoldable pub readOf : List ℕ → Bool → Answer PusTcRecord
-readOf s b = frameOf startC s b then λ n. gives (recordOf s b n)
+unfoldable pub readIn : TcForm → List ℕ → Bool → Answer PusTcRecord
+readIn f s b = frameIn f s b then λ n. gives (recordIn f s b n)
 
 -- read with the checksum taken and compared
-unfoldable pub checkedRead : List ℕ → Answer PusTcRecord
-checkedRead s = checkedOf startC s then λ n. gives (recordOf s true n)
+unfoldable pub checkedIn : TcForm → List ℕ → Answer PusTcRecord
+checkedIn f s = checkedFrame f s then λ n. gives (recordIn f s true n)
 
 -- the application data and the packet, as parts of the octets; where the read is refused, the empty part
+abbrev pub appDataIn : TcForm → List ℕ → Bool → List ℕ
+appDataIn f s b = dataPart (startIn f) b (frameIn f s b) s
+
+abbrev pub rawDataIn : TcForm → List ℕ → Bool → List ℕ
+rawDataIn f s b = rawPart (frameIn f s b) s
+
+-- ---- of PUS C
+
+abbrev pub readOf : List ℕ → Bool → Answer PusTcRecord
+readOf = readIn formC
+
+abbrev pub checkedRead : List ℕ → Answer PusTcRecord
+checkedRead = checkedIn formC
+
 abbrev pub appData : List ℕ → Bool → List ℕ
-appData s b = dataPart startC b (frameOf startC s b) s
+appData = appDataIn formC
 
 abbrev pub rawData : List ℕ → Bool → List ℕ
-rawData s b = rawPart (frameOf startC s b) s
+rawData = rawDataIn formC

@@ -1,21 +1,19 @@
-// PUS-C telecommands read, after ECSS-E-ST-70-41C: the record of what octets hold, and the parts of them that are handed out
-// without a copy.
+// Telecommands read, after ECSS-E-ST-70-41C and, for PUS A, ECSS-E-70-41A: the record of what octets hold, and the parts of them
+// that are handed out without a copy. The calls named after the Rust read PUS C; their siblings, which end in `_in`, take a form.
 ghost use mathlib.Core.Path.{_≡_};
 ghost use mathlib.Core.Bool.{false};
-ghost use Prim.Native.Nat.{_+_, _-_, _≤_};
+ghost use Prim.Native.Nat.{_≤_};
 ghost use lib.Dec.{eqb};
-ghost use lib.ListN.{length};
 ghost use Rattle.space_packet.specs.Fields.{typeNumber, idRaw, pscRaw};
 ghost use Rattle.space_packet.specs.Header.{packetLen};
-ghost use Rattle.ecss.specs.Frame.{trailer};
-ghost use Rattle.tc_read.specs.Read.{startC, recordOf, recordAnswer, readOf, checkedRead, appData, rawData, crcTaken, hasCrc};
+ghost use Rattle.tc_read.specs.Read.{Framed, recordIn, recordAnswer, readIn, readOf, checkedIn, checkedRead, appDataIn, appData, rawDataIn, rawData, crcTaken, hasCrc};
 pub use ecss::Crc16;
 use ecss::MessageTypeId;
 use ecss::PusError;
 use ecss::PusVersion;
 use ecss::frame;
 use space_packet::Apid;
-use space_packet::CCSDS_HEADER_LEN;
+use space_packet::CheckResult;
 use space_packet::PacketId;
 use space_packet::PacketSequenceControl;
 use space_packet::PacketType;
@@ -25,9 +23,9 @@ use space_packet::SizeResult;
 use space_packet::SpHeader;
 use space_packet::SpHeaderResult;
 use tc_header::AckFlags;
-use tc_header::PUS_TC_MIN_LEN_WITHOUT_APP_DATA;
 use tc_header::PusTcSecondaryHeader;
 use tc_header::SecHeaderResult;
+use tc_header::TcForm;
 
 // What a reader reports.
 pub struct PusTcRecord {
@@ -62,10 +60,20 @@ impl PusTcRecord {
     pub fn new(slice: &[u8]) -> PusTcRecordResult
         ensures { λ r. ⌜ recordAnswer r ≡ checkedRead (now (slice .entry)) ⌝ }
     {
-        let f = frame::checked(slice, PUS_TC_MIN_LEN_WITHOUT_APP_DATA);
+        PusTcRecord::new_in(TcForm::PUS_C, slice)
+    }
+
+    pub fn new_in(form: TcForm, slice: &[u8]) -> PusTcRecordResult
+        ensures { λ r. ⌜ recordAnswer r ≡ checkedIn form (now (slice .entry)) ⌝ }
+    {
+        let c = form.check();
+        if let CheckResult::Err(e) = c {
+            return PusTcRecordResult::Err(e);
+        }
+        let f = frame::checked(slice, form.min_len_without_app_data());
         match f {
             SizeResult::Err(refusal) => PusTcRecordResult::Err(refusal),
-            SizeResult::Ok(total) => PusTcRecord::of(slice, total, true),
+            SizeResult::Ok(total) => PusTcRecord::of(form, slice, total, true),
         }
     }
 
@@ -82,38 +90,60 @@ impl PusTcRecord {
         PusTcRecord::new_no_checksum_verification(slice, false)
     }
 
+    pub fn new_no_checksum_in(form: TcForm, slice: &[u8]) -> PusTcRecordResult
+        ensures { λ r. ⌜ recordAnswer r ≡ readIn form (now (slice .entry)) false ⌝ }
+    {
+        PusTcRecord::new_no_checksum_verification_in(form, slice, false)
+    }
+
     // A checksum is taken where there is one, and not compared; 2.
     pub fn new_no_checksum_verification(slice: &[u8], has_checksum: bool) -> PusTcRecordResult
         ensures { λ r. ⌜ recordAnswer r ≡ readOf (now (slice .entry)) «has_checksum» ⌝ }
     {
-        let f = frame::frame_of(slice, PUS_TC_MIN_LEN_WITHOUT_APP_DATA, has_checksum);
+        PusTcRecord::new_no_checksum_verification_in(TcForm::PUS_C, slice, has_checksum)
+    }
+
+    pub fn new_no_checksum_verification_in(
+        form: TcForm,
+        slice: &[u8],
+        has_checksum: bool,
+    ) -> PusTcRecordResult
+        ensures { λ r. ⌜ recordAnswer r ≡ readIn form (now (slice .entry)) «has_checksum» ⌝ }
+    {
+        let c = form.check();
+        if let CheckResult::Err(e) = c {
+            return PusTcRecordResult::Err(e);
+        }
+        let f = frame::frame_of(slice, form.min_len_without_app_data(), has_checksum);
         match f {
             SizeResult::Err(e) => PusTcRecordResult::Err(e),
-            SizeResult::Ok(total) => PusTcRecord::of(slice, total, has_checksum),
+            SizeResult::Ok(total) => PusTcRecord::of(form, slice, total, has_checksum),
         }
     }
 
     // The record of a packet of `total` octets.
-    fn of(slice: &[u8], total: usize, has_checksum: bool) -> PusTcRecordResult
-        requires { ⌜ (startC + trailer «has_checksum» ≤ total) × (total ≤ length (now slice)) ⌝ }
-        ensures { λ r. ⌜ r ≡ PusTcRecordResult.Ok (recordOf (now (slice .entry)) «has_checksum» total) ⌝ }
+    fn of(form: TcForm, slice: &[u8], total: usize, has_checksum: bool) -> PusTcRecordResult
+        requires { ⌜ Framed form «has_checksum» (now slice) total ⌝ }
+        ensures { λ r. ⌜ r ≡ PusTcRecordResult.Ok (recordIn form (now (slice .entry)) «has_checksum» total) ⌝ }
     {
         let header = SpHeader::from_be_bytes(slice);
         match header {
             SpHeaderResult::Err(e) => PusTcRecordResult::Err(e),
             SpHeaderResult::Ok(sp_header) => {
-                let second = PusTcSecondaryHeader::from_be_bytes(
-                    &slice[CCSDS_HEADER_LEN..PUS_TC_MIN_LEN_WITHOUT_APP_DATA],
+                let second = PusTcSecondaryHeader::from_be_bytes_in(
+                    form,
+                    form.sec_header_part(slice),
                 );
                 match second {
                     SecHeaderResult::Err(e) => PusTcRecordResult::Err(e),
                     SecHeaderResult::Ok(sec_header) => {
                         let end = total - frame::trailer_len(has_checksum);
                         let crc16 = crc_taken(slice, total, has_checksum);
+                        let start = form.min_len_without_app_data();
                         PusTcRecordResult::Ok(PusTcRecord {
                             sp_header,
                             sec_header,
-                            start: PUS_TC_MIN_LEN_WITHOUT_APP_DATA,
+                            start,
                             end,
                             total,
                             crc16,
@@ -317,12 +347,32 @@ impl PusTcRecord {
 pub fn app_data(slice: &[u8], has_checksum: bool) -> &[u8]
     ensures { λ r. ⌜ now r ≡ appData (now (slice .entry)) «has_checksum» ⌝ }
 {
-    frame::data_part(slice, PUS_TC_MIN_LEN_WITHOUT_APP_DATA, has_checksum)
+    app_data_in(TcForm::PUS_C, slice, has_checksum)
+}
+
+pub fn app_data_in(form: TcForm, slice: &[u8], has_checksum: bool) -> &[u8]
+    ensures { λ r. ⌜ now r ≡ appDataIn form (now (slice .entry)) «has_checksum» ⌝ }
+{
+    let c = form.check();
+    match c {
+        CheckResult::Err(_) => &slice[..0],
+        CheckResult::Ok => frame::data_part(slice, form.min_len_without_app_data(), has_checksum),
+    }
 }
 
 // The whole packet; the empty part where the read is refused.
 pub fn raw_data(slice: &[u8], has_checksum: bool) -> &[u8]
     ensures { λ r. ⌜ now r ≡ rawData (now (slice .entry)) «has_checksum» ⌝ }
 {
-    frame::raw_part(slice, PUS_TC_MIN_LEN_WITHOUT_APP_DATA, has_checksum)
+    raw_data_in(TcForm::PUS_C, slice, has_checksum)
+}
+
+pub fn raw_data_in(form: TcForm, slice: &[u8], has_checksum: bool) -> &[u8]
+    ensures { λ r. ⌜ now r ≡ rawDataIn form (now (slice .entry)) «has_checksum» ⌝ }
+{
+    let c = form.check();
+    match c {
+        CheckResult::Err(_) => &slice[..0],
+        CheckResult::Ok => frame::raw_part(slice, form.min_len_without_app_data(), has_checksum),
+    }
 }

@@ -12,8 +12,7 @@ use Rattle.space_packet.specs.Bits.{pick}
 use Rattle.space_packet.specs.Answer.{Answer}
 use Rattle.ecss.specs.Frame.{statedOf}
 use Rattle.tc_read.specs.declared.PusTcRecord.{PusTcRecord}
-use Rattle.tc_strict.specs.Verdict.{strictOf}
-use Rattle.tc_strict.specs.Split.{Piece, packet, tail, end, piece, isTail, pieceOf, lengthOf, stepOf}
+use Rattle.tc_strict.specs.Split.{Piece, packet, tail, end, piece, isTail, pieceBy, lengthOf, stepBy}
 
 -- ---- what is found
 
@@ -30,64 +29,14 @@ cut-off rest h k = ap₂ _||_ (le-ltb (length rest) 6 h) (lt-ltb (length rest) (
 pub whole : (rest : List ℕ) → 6 ≤ length rest → statedOf rest ≤ length rest → isTail rest ≡ false
 whole rest h k = ap₂ _||_ (le-ltb (length rest) 6 h) (le-ltb (length rest) (statedOf rest) k)
 
-pub step-end : (s : List ℕ) (at : ℕ) → length s ≤ at → stepOf s at ≡ end
-unfolding stepOf
-step-end s at h =
-    ap (λ (b : Bool). pick b end (piece (pieceOf at (drop at s)) (at + lengthOf (pieceOf at (drop at s))))) (le-leb (length s) at h)
-
-step-piece : (s : List ℕ) (at : ℕ) (p : Piece) → at < length s → pieceOf at (drop at s) ≡ p → stepOf s at ≡ piece p (at + lengthOf p)
-unfolding stepOf
-step-piece s at p h e =
-    ap (λ (b : Bool). pick b end (piece (pieceOf at (drop at s)) (at + lengthOf (pieceOf at (drop at s))))) (lt-leb (length s) at h)
-    ∙ ap (λ (q : Piece). piece q (at + lengthOf q)) e
-
-pub step-tail : (s : List ℕ) (at : ℕ) → at < length s → isTail (drop at s) ≡ true → stepOf s at ≡ piece (tail at (length s - at)) (length s)
-unfolding pieceOf
-step-tail s at h t =
-    let rest = drop at s in
-    let e = ap (λ (b : Bool). pick b (tail at (length rest)) (packet at (statedOf rest) (strictOf (take (statedOf rest) rest)))) t ∙ ap (tail at) (length-drop at s) in
-    let n : at + (length s - at) ≡ length s = omega arith in step-piece s at (tail at (length s - at)) h e ∙ ap (piece (tail at (length s - at))) n
-
-pub step-packet : (s : List ℕ) (at n : ℕ) (v : Answer PusTcRecord) → at < length s → isTail (drop at s) ≡ false → n ≡ statedOf (drop at s)
-    → v ≡ strictOf (take n (take (length s - at) (drop at s))) → stepOf s at ≡ piece (packet at n v) (at + n)
-unfolding pieceOf
-step-packet s at n v h t e k =
-    let rest = drop at s in
-    step-piece s at (packet at n v) h
-    (ap (λ (b : Bool). pick b (tail at (length rest)) (packet at (statedOf rest) (strictOf (take (statedOf rest) rest)))) t
-    ∙ ap (λ (m : ℕ). packet at m (strictOf (take m rest))) (sym e)
-    ∙ ap (packet at n) (sym (k ∙ ap (λ (l : List ℕ). strictOf (take n l)) (rest-is s at))))
-
--- ---- what a piece says
-
 -- where a piece begins
 abbrev pub beginOf : Piece → ℕ
 beginOf (packet at n v) = at
 beginOf (tail at n) = at
 
--- a packet is the stated total of octets, and its verdict is the strict verdict of just those; a tail is what remains
-abbrev pub Judged : List ℕ → Piece → Type 0
-Judged s (packet at n v) = (n ≡ statedOf (drop at s)) × (v ≡ strictOf (take n (drop at s)))
-Judged s (tail at n) = (n ≡ length s - at) × (isTail (drop at s) ≡ true)
-
-pub record PieceIs (s : List ℕ) (at : ℕ) (p : Piece) : Type 0 where
-  pub begins : beginOf p ≡ at
-  pub long : 0 < lengthOf p
-  pub inside : at + lengthOf p ≤ length s
-  pub judged : Judged s p
-
 or-false : (a b : Bool) → a || b ≡ false → (a ≡ false) × (b ≡ false)
 or-false false b e = (refl, e)
 or-false true b e = absurd (let z : _≡_ {A = ℕ} 0 1 = cc in omega arith)
-
-piece-is : (s : List ℕ) (at : ℕ) (b : Bool) → at < length s → isTail (drop at s) ≡ b
-    → PieceIs s at (pick b (tail at (length (drop at s))) (packet at (statedOf (drop at s)) (strictOf (take (statedOf (drop at s)) (drop at s)))))
-piece-is s at true h t =
-    let l = length-drop at s in record { begins = refl; long = omega (arith, l); inside = omega (arith, l); judged = (l, t) }
-piece-is s at false h t =
-    let l = length-drop at s in
-    let k : statedOf (drop at s) ≤ length (drop at s) = ltb-false _ _ (or-false (ltb (length (drop at s)) 6) (ltb (length (drop at s)) (statedOf (drop at s))) t .1) in
-    record { begins = refl; long = omega arith; inside = omega (arith, l); judged = (refl, refl) }
 
 pick-piece : (b : Bool) (q p : Piece) (m n : ℕ) → pick b end (piece q m) ≡ piece p n → (b ≡ false) × (q ≡ p) × (m ≡ n)
 pick-piece true q p m n e = absurd (let z : _≡_ {A = ℕ} 0 1 = cc in omega arith)
@@ -97,15 +46,66 @@ pick-end : (b : Bool) (q : Piece) (m : ℕ) → pick b end (piece q m) ≡ end �
 pick-end true q m e = refl
 pick-end false q m e = absurd (let z : _≡_ {A = ℕ} 0 1 = cc in omega arith)
 
--- a step that finds a piece goes on behind it
-pub step-is : (s : List ℕ) (at : ℕ) (p : Piece) (next : ℕ) → stepOf s at ≡ piece p next → PieceIs s at p × (next ≡ at + lengthOf p)
-unfolding stepOf pieceOf
-step-is s at p next e =
-    let q = pick-piece (leb (length s) at) (pieceOf at (drop at s)) p (at + lengthOf (pieceOf at (drop at s))) next e in
-    let h = piece-is s at (isTail (drop at s)) (leb-false (length s) at (q .0)) refl in
-    (subst (PieceIs s at) (q .1) h, sym (q .2) ∙ ap (λ (x : Piece). at + lengthOf x) (q .1))
+-- ---- by the verdict that each packet is given
 
--- and one that ends finds no octet left
-pub ended-is : (s : List ℕ) (at : ℕ) → stepOf s at ≡ end → length s ≤ at
-unfolding stepOf
-ended-is s at e = leb-true (length s) at (pick-end (leb (length s) at) (pieceOf at (drop at s)) _ e)
+module _ (verdict : List ℕ → Answer PusTcRecord) where
+  pub step-end : (s : List ℕ) (at : ℕ) → length s ≤ at → stepBy verdict s at ≡ end
+  unfolding stepBy
+  step-end s at h =
+      ap (λ (b : Bool). pick b end (piece (pieceBy verdict at (drop at s)) (at + lengthOf (pieceBy verdict at (drop at s))))) (le-leb (length s) at h)
+
+  step-piece : (s : List ℕ) (at : ℕ) (p : Piece) → at < length s → pieceBy verdict at (drop at s) ≡ p → stepBy verdict s at ≡ piece p (at + lengthOf p)
+  unfolding stepBy
+  step-piece s at p h e =
+      ap (λ (b : Bool). pick b end (piece (pieceBy verdict at (drop at s)) (at + lengthOf (pieceBy verdict at (drop at s))))) (lt-leb (length s) at h)
+      ∙ ap (λ (q : Piece). piece q (at + lengthOf q)) e
+
+  pub step-tail : (s : List ℕ) (at : ℕ) → at < length s → isTail (drop at s) ≡ true → stepBy verdict s at ≡ piece (tail at (length s - at)) (length s)
+  unfolding pieceBy
+  step-tail s at h t =
+      let rest = drop at s in
+      let e = ap (λ (b : Bool). pick b (tail at (length rest)) (packet at (statedOf rest) (verdict (take (statedOf rest) rest)))) t ∙ ap (tail at) (length-drop at s) in
+      let n : at + (length s - at) ≡ length s = omega arith in step-piece s at (tail at (length s - at)) h e ∙ ap (piece (tail at (length s - at))) n
+
+  pub step-packet : (s : List ℕ) (at n : ℕ) (v : Answer PusTcRecord) → at < length s → isTail (drop at s) ≡ false → n ≡ statedOf (drop at s)
+      → v ≡ verdict (take n (take (length s - at) (drop at s))) → stepBy verdict s at ≡ piece (packet at n v) (at + n)
+  unfolding pieceBy
+  step-packet s at n v h t e k =
+      let rest = drop at s in
+      step-piece s at (packet at n v) h
+      (ap (λ (b : Bool). pick b (tail at (length rest)) (packet at (statedOf rest) (verdict (take (statedOf rest) rest)))) t
+      ∙ ap (λ (m : ℕ). packet at m (verdict (take m rest))) (sym e)
+      ∙ ap (packet at n) (sym (k ∙ ap (λ (l : List ℕ). verdict (take n l)) (rest-is s at))))
+
+  -- a packet is the stated total of octets, and its verdict is the strict verdict of just those; a tail is what remains
+  abbrev pub Judged : List ℕ → Piece → Type 0
+  Judged s (packet at n v) = (n ≡ statedOf (drop at s)) × (v ≡ verdict (take n (drop at s)))
+  Judged s (tail at n) = (n ≡ length s - at) × (isTail (drop at s) ≡ true)
+
+  pub record PieceIs (s : List ℕ) (at : ℕ) (p : Piece) : Type 0 where
+    pub begins : beginOf p ≡ at
+    pub long : 0 < lengthOf p
+    pub inside : at + lengthOf p ≤ length s
+    pub judged : Judged s p
+
+  piece-is : (s : List ℕ) (at : ℕ) (b : Bool) → at < length s → isTail (drop at s) ≡ b
+      → PieceIs s at (pick b (tail at (length (drop at s))) (packet at (statedOf (drop at s)) (verdict (take (statedOf (drop at s)) (drop at s)))))
+  piece-is s at true h t =
+      let l = length-drop at s in record { begins = refl; long = omega (arith, l); inside = omega (arith, l); judged = (l, t) }
+  piece-is s at false h t =
+      let l = length-drop at s in
+      let k : statedOf (drop at s) ≤ length (drop at s) = ltb-false _ _ (or-false (ltb (length (drop at s)) 6) (ltb (length (drop at s)) (statedOf (drop at s))) t .1) in
+      record { begins = refl; long = omega arith; inside = omega (arith, l); judged = (refl, refl) }
+
+  -- a step that finds a piece goes on behind it
+  pub step-is : (s : List ℕ) (at : ℕ) (p : Piece) (next : ℕ) → stepBy verdict s at ≡ piece p next → PieceIs s at p × (next ≡ at + lengthOf p)
+  unfolding stepBy pieceBy
+  step-is s at p next e =
+      let q = pick-piece (leb (length s) at) (pieceBy verdict at (drop at s)) p (at + lengthOf (pieceBy verdict at (drop at s))) next e in
+      let h = piece-is s at (isTail (drop at s)) (leb-false (length s) at (q .0)) refl in
+      (subst (PieceIs s at) (q .1) h, sym (q .2) ∙ ap (λ (x : Piece). at + lengthOf x) (q .1))
+
+  -- and one that ends finds no octet left
+  pub ended-is : (s : List ℕ) (at : ℕ) → stepBy verdict s at ≡ end → length s ≤ at
+  unfolding stepBy
+  ended-is s at e = leb-true (length s) at (pick-end (leb (length s) at) (pieceBy verdict at (drop at s)) _ e)

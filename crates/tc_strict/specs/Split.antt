@@ -7,8 +7,10 @@ use lib.Dec.{ltb, leb}
 use Rattle.space_packet.specs.Bits.{pick}
 use Rattle.space_packet.specs.Answer.{Answer}
 use Rattle.ecss.specs.Frame.{statedOf}
+use Rattle.tc_header.specs.Form.{formC}
+use Rattle.tc_header.specs.declared.TcForm.{TcForm}
 use Rattle.tc_read.specs.declared.PusTcRecord.{PusTcRecord}
-use Rattle.tc_strict.specs.Verdict.{strictOf, verdictAnswer}
+use Rattle.tc_strict.specs.Verdict.{strictIn, verdictAnswer}
 use Rattle.tc_strict.specs.declared.split.Step.{Step}
 use Rattle.tc_strict.specs.declared.split.Step.the-variants as S
 
@@ -21,11 +23,6 @@ pub data Piece : Type 0 where
 abbrev pub isTail : List ℕ → Bool
 isTail rest = ltb (length rest) 6 || ltb (length rest) (statedOf rest)
 
--- the piece that begins at `at`, where `rest` is what remains there
-unfoldable pub pieceOf : ℕ → List ℕ → Piece
-pieceOf at rest =
-    pick (isTail rest) (tail at (length rest)) (packet at (statedOf rest) (strictOf (take (statedOf rest) rest)))
-
 -- nothing, where the capture has ended
 pub data Next : Type 0 where
   end : Next
@@ -34,11 +31,6 @@ pub data Next : Type 0 where
 abbrev pub lengthOf : Piece → ℕ
 lengthOf (packet at n v) = n
 lengthOf (tail at n) = n
-
--- one step, from the octet `at`: the piece, and where the next begins
-unfoldable pub stepOf : List ℕ → ℕ → Next
-stepOf s at =
-    pick (leb (length s) at) end (piece (pieceOf at (drop at s)) (at + lengthOf (pieceOf at (drop at s))))
 
 abbrev pub stepAnswer : Step → Next
 stepAnswer S.End = end
@@ -50,11 +42,41 @@ abbrev pub continue : Next → (ℕ → List Piece) → List Piece
 continue end walk = []
 continue (piece p next) walk = p ∷ walk next
 
--- the walk from the octet `at` on; `turns` is no fewer than the octets that remain
-unfoldable pub walkFrom : ℕ → List ℕ → ℕ → List Piece
-walkFrom zero s at = []
-walkFrom (suc turns) s at = continue (stepOf s at) (walkFrom turns s)
+-- ---- by the verdict that each packet is given
 
--- the whole walk
+module _ (verdict : List ℕ → Answer PusTcRecord) where
+  -- the piece that begins at `at`, where `rest` is what remains there
+  unfoldable pub pieceBy : ℕ → List ℕ → Piece
+  pieceBy at rest =
+      pick (isTail rest) (tail at (length rest)) (packet at (statedOf rest) (verdict (take (statedOf rest) rest)))
+
+  -- one step, from the octet `at`: the piece, and where the next begins
+  unfoldable pub stepBy : List ℕ → ℕ → Next
+  stepBy s at =
+      pick (leb (length s) at) end (piece (pieceBy at (drop at s)) (at + lengthOf (pieceBy at (drop at s))))
+
+  -- the walk from the octet `at` on; `turns` is no fewer than the octets that remain
+  unfoldable pub walkBy : ℕ → List ℕ → ℕ → List Piece
+  walkBy zero s at = []
+  walkBy (suc turns) s at = continue (stepBy s at) (walkBy turns s)
+
+  -- the whole walk
+  abbrev pub wholeBy : List ℕ → List Piece
+  wholeBy s = walkBy (length s) s 0
+
+-- of a form
+abbrev pub stepIn : TcForm → List ℕ → ℕ → Next
+stepIn f = stepBy (strictIn f)
+
+abbrev pub walkIn : TcForm → List ℕ → List Piece
+walkIn f = wholeBy (strictIn f)
+
+-- of PUS C
+abbrev pub stepOf : List ℕ → ℕ → Next
+stepOf = stepIn formC
+
+abbrev pub walkFrom : ℕ → List ℕ → ℕ → List Piece
+walkFrom = walkBy (strictIn formC)
+
 abbrev pub walk : List ℕ → List Piece
-walk s = walkFrom (length s) s 0
+walk = walkIn formC

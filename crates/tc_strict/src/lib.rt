@@ -1,11 +1,10 @@
-// The strict verdict: octets are accepted exactly when they begin with a checksummed PUS-C telecommand that the written
-// rules produce.
+// The strict verdict: octets are accepted exactly when they begin with a checksummed telecommand, of PUS C or of the form that is
+// named, that the written rules produce.
 ghost use mathlib.Core.Path.{_≡_};
-ghost use Rattle.tc_strict.specs.Verdict.{strictOf, verdictAnswer};
+ghost use Rattle.tc_strict.specs.Verdict.{strictIn, strictOf, verdictAnswer};
 use ecss::PusError;
-use space_packet::CCSDS_HEADER_LEN;
 use space_packet::CheckResult;
-use tc_header::PUS_TC_MIN_LEN_WITHOUT_APP_DATA;
+use tc_header::TcForm;
 use tc_read::PusTcRecord;
 use tc_read::PusTcRecordResult;
 
@@ -21,12 +20,19 @@ pub enum Verdict {
 pub fn judge(s: &[u8]) -> Verdict
     ensures { λ v. ⌜ verdictAnswer v ≡ strictOf (now (s .entry)) ⌝ }
 {
-    let read = PusTcRecord::new(s);
+    judge_in(TcForm::PUS_C, s)
+}
+
+// The same of a form, which is refused first.
+pub fn judge_in(form: TcForm, s: &[u8]) -> Verdict
+    ensures { λ v. ⌜ verdictAnswer v ≡ strictIn form (now (s .entry)) ⌝ }
+{
+    let read = PusTcRecord::new_in(form, s);
     match read {
         PusTcRecordResult::Err(e) => Verdict::Refused(e),
         PusTcRecordResult::Ok(record) => {
-            let second = &s[CCSDS_HEADER_LEN..PUS_TC_MIN_LEN_WITHOUT_APP_DATA];
-            let c = tc_header::strict_rule(record.sp_header, second);
+            let second = form.sec_header_part(s);
+            let c = tc_header::strict_rule(form, record.sp_header, second);
             match c {
                 CheckResult::Err(e) => Verdict::Refused(e),
                 CheckResult::Ok => Verdict::Accepted(record),

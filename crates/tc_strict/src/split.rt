@@ -1,8 +1,9 @@
 // The splitter: walks a capture packet by packet, and judges each alone.
 ghost use mathlib.Core.Path.{_≡_};
 ghost use Prim.Native.Nat.{_-_, _≤_};
-ghost use Rattle.tc_strict.specs.Split.{stepOf, stepAnswer};
+ghost use Rattle.tc_strict.specs.Split.{stepIn, stepOf, stepAnswer};
 use crate::Verdict;
+use tc_header::TcForm;
 
 // A place in a capture.
 pub struct Cursor {
@@ -51,6 +52,13 @@ impl Cursor {
     pub fn step(self, capture: &[u8]) -> Step
         ensures { λ r. ⌜ stepAnswer r ≡ stepOf (now (capture .entry)) (self .at) ⌝ }
     {
+        self.step_in(TcForm::PUS_C, capture)
+    }
+
+    // Its packets are of a form; where that is refused, each of them is.
+    pub fn step_in(self, form: TcForm, capture: &[u8]) -> Step
+        ensures { λ r. ⌜ stepAnswer r ≡ stepIn form (now (capture .entry)) (self .at) ⌝ }
+    {
         let at = self.at;
         let n = capture.len();
         if n <= at {
@@ -68,7 +76,7 @@ impl Cursor {
         Step::Packet {
             at,
             total,
-            verdict: crate::judge(packet),
+            verdict: crate::judge_in(form, packet),
             next: Cursor { at: at + total },
         }
     }

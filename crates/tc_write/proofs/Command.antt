@@ -1,9 +1,10 @@
--- What the PUS-C telecommand owes as a writer, and what it hands to the calls that every kind shares.
-use Prim.Native.Nat.{ℕ, _≤_}
-use mathlib.Core.Path.{_≡_, refl, ap, _∙_}
-use mathlib.Core.List.{List, [], _++_, append-nil}
+-- What a telecommand of any form owes as a writer, and what it hands to the calls that every kind shares.
+use Prim.Native.Nat.{ℕ}
+use mathlib.Core.Path.{_≡_, ap, ap₂, _∙_}
+use mathlib.Core.List.{List}
 use native.Mathlib.Omega.{arith}
-use lib.ListN.{length, drop, drop-of-length-le}
+use lib.ListN.{length, take}
+use lib.Seq.{length-take-le, take-at}
 use borrow.Author.Tests.{le-ltb}
 use Rattle.space_packet.specs.Answer.{gives}
 use Rattle.space_packet.specs.Header.{leftBy}
@@ -12,32 +13,46 @@ use Rattle.ecss_write.specs.Write.{asksAnswer}
 use Rattle.ecss_write.specs.Writer.{WriterLaws, askedOf}
 use Rattle.ecss_write.specs.declared.packet.Asks.{Asks}
 use Rattle.ecss_write.proofs.Calls.{Hands}
-use Rattle.tc_header.specs.Header.{ackCheck, versionCheck, secOctets, secWrite}
+use Rattle.tc_header.specs.Form.{formCheck}
+use Rattle.tc_header.specs.Header.{fieldsCheck, versionIn, tcOctets, secWriteIn, tc}
 use Rattle.tc_header.specs.declared.PusTcSecondaryHeader.{PusTcSecondaryHeader}
-use Rattle.tc_header.proofs.Checks.{ack-passes, version-passes}
-use Rattle.tc_header.proofs.Laws.{laws}
-use Rattle.tc_write.specs.Command.{commandC}
+use Rattle.tc_header.specs.declared.TcForm.{TcForm}
+use Rattle.tc_header.proofs.Checks.{fields-pass, version-passes, checks-version}
+use Rattle.tc_header.proofs.Forms.{taken, taken-c}
+use Rattle.tc_header.proofs.Laws.{laws, length-octets}
+use Rattle.tc_write.specs.Command.{commandIn, commandC}
 
 -- its checks pass exactly for the headers that the strict checks take
-pub writer-laws : WriterLaws commandC
-writer-laws =
+pub writer-laws : (f : TcForm) → formCheck f ≡ gives tt → WriterLaws (commandIn f)
+writer-laws f good =
     record {
-      kind-laws = laws;
-      passed-fits = λ x q p v. record { pus-c = version-passes (x .version) .0 v; ack-fits = ack-passes (x .«ack_flags») .0 p };
-      fits-passes = λ x s. (refl, ack-passes (x .«ack_flags») .1 (s .ack-fits), version-passes (x .version) .1 (s .pus-c));
+      kind-laws = laws f good;
+      passed-fits = λ x q p v.
+          let h = fields-pass f x .0 p in
+          record { version-is = version-passes f (x .version) .0 v; ack-fits = h .0; source-fits = h .1 };
+      fits-passes = λ x s.
+          (good, fields-pass f x .1 (s .ack-fits, s .source-fits), version-passes f (x .version) .1 (s .version-is));
     }
 
-sec-written : (x : PusTcSecondaryHeader) (z s : List ℕ) → length z ≡ 5 → s ≡ leftBy (secWrite x (length z)) (secOctets x) z
-    → ackCheck (x .«ack_flags») ≡ gives tt → versionCheck (x .version) ≡ gives tt → s ≡ secOctets x
-unfolding secWrite
-sec-written x z s e q p v =
-    let f : length z ≤ 5 = omega arith in
-    let d : drop 5 z ≡ [] = drop-of-length-le z f in
-    q ∙ left-written _ _ _ 5 (gives-then _ _ tt p ∙ gives-then _ _ 5 (refuse-no _ _ _ (le-ltb (length z) 5 (omega arith))) ∙ gives-then _ _ tt v)
-    ∙ ap (λ (y : List ℕ). secOctets x ++ y) d ∙ append-nil (secOctets x)
+pub writer-laws-c : WriterLaws commandC
+writer-laws-c = writer-laws _ taken-c
 
--- its checks, and the octets s that writing it leaves in five others
-pub hands : (x : PusTcSecondaryHeader) (a : Asks) (z s : List ℕ)
-    → asksAnswer a ≡ askedOf commandC x → length z ≡ 5 → length s ≡ 5 → s ≡ leftBy (secWrite x (length z)) (secOctets x) z → Hands commandC x a s
-hands x a z s p ez e q =
-    record { asks-is = p; sized = λ _. e; coded = λ _ f v. sec-written x z s ez q f v }
+-- the octets l, as many of s as the form has, where writing the header left s in the room z for the longest
+module _ (f : TcForm) (x : PusTcSecondaryHeader) (z s l : List ℕ) (n : ℕ) (ez : length z ≡ 5) (es : length s ≡ 5)
+    (left : s ≡ leftBy (secWriteIn f x (length z)) (tcOctets f x) z) (en : n ≡ tc f .size) (el : l ≡ take n s) where
+  sized : formCheck f ≡ gives tt → length l ≡ tc f .size
+  sized good =
+      let h = taken f good .at-most-two in
+      ap length el ∙ length-take-le n s (omega arith) ∙ en
+
+  coded : formCheck f ≡ gives tt → fieldsCheck f x ≡ gives tt → versionIn f (x .version) ≡ gives tt → l ≡ tcOctets f x
+  unfolding secWriteIn
+  coded good p v =
+      let h = taken f good .at-most-two in
+      let room = refuse-no _ _ _ (le-ltb (length z) (tc f .size) (omega arith)) in
+      let passed = checks-version f x (length z) _ (gives-then _ _ tt good ∙ p) room ∙ v in
+      el ∙ ap₂ take en (left ∙ left-written _ _ _ _ (gives-then _ _ tt passed))
+      ∙ take-at (tcOctets f x) _ _ (length-octets f good x)
+
+  pub hands : (a : Asks) → asksAnswer a ≡ askedOf (commandIn f) x → Hands (commandIn f) x a l
+  hands a p = record { asks-is = p; sized = sized; coded = coded }

@@ -7,7 +7,7 @@ use Rattle.space_packet.proofs.Answers.{by-inverse, resultOf, error-back}
 use Rattle.space_packet.specs.declared.SizeResult.{SizeResult}
 use Rattle.space_packet.proofs.Determined.{check-inj, writes}
 use Rattle.tc_write.specs.Creator.{creatorAnswer, creatorKept, checksumAnswer, PacketWrote, ContentWrote}
-use Rattle.tc_write.specs.Builder.{builderKept}
+use Rattle.tc_write.specs.Builder.{builderAnswer, builderKept}
 use Rattle.tc_write.specs.declared.PusTcCreator.{PusTcCreator}
 use Rattle.tc_write.specs.declared.PusTcCreatorSet.{PusTcCreatorSet}
 use Rattle.tc_write.specs.declared.PusTcCreatorResult.{PusTcCreatorResult}
@@ -16,10 +16,16 @@ use Rattle.tc_write.specs.declared.ChecksumResult.{ChecksumResult}
 use Rattle.tc_write.specs.declared.ChecksumResult.the-variants as K
 use Rattle.tc_write.specs.declared.PusTcBuilder.{PusTcBuilder}
 use Rattle.tc_write.specs.declared.PusTcBuilderSet.{PusTcBuilderSet}
+use Rattle.tc_write.specs.declared.PusTcBuilderResult.{PusTcBuilderResult}
+use Rattle.tc_write.specs.declared.PusTcBuilderResult.the-variants as B
 
 pub creator-inj : (x y : PusTcCreatorResult) → creatorAnswer x ≡ creatorAnswer y → x ≡ y
 unfolding resultOf
 creator-inj = by-inverse creatorAnswer (resultOf T.Ok T.Err) (elim [ T.Ok t ↦ refl | T.Err e ↦ ap T.Err (error-back e) ])
+
+pub builder-inj : (x y : PusTcBuilderResult) → builderAnswer x ≡ builderAnswer y → x ≡ y
+unfolding resultOf
+builder-inj = by-inverse builderAnswer (resultOf B.Ok B.Err) (elim [ B.Ok b ↦ refl | B.Err e ↦ ap B.Err (error-back e) ])
 
 pub checksum-inj : (x y : ChecksumResult) → checksumAnswer x ≡ checksumAnswer y → x ≡ y
 unfolding resultOf

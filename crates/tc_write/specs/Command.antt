@@ -1,14 +1,18 @@
--- The PUS-C telecommand as its writers take it: its kind, with what they ask of its secondary header.
-use Rattle.space_packet.specs.Answer.{gives}
+-- The telecommand of a form as its writers take it: its kind, with what they ask of its secondary header.
 use Rattle.ecss_write.specs.Writer.{Writer}
-use Rattle.tc_header.specs.Header.{ackCheck, versionCheck, pusC}
+use Rattle.tc_header.specs.Form.{formC, formCheck}
+use Rattle.tc_header.specs.Header.{versionIn, fieldsCheck, tc}
 use Rattle.tc_header.specs.declared.PusTcSecondaryHeader.{PusTcSecondaryHeader}
+use Rattle.tc_header.specs.declared.TcForm.{TcForm}
 
--- they ask 7 for the acknowledgement flags, and 3 after the room
-abbrev pub commandC : Writer PusTcSecondaryHeader
-commandC = record {
-  kind = pusC;
-  first = λ x. gives tt;
-  fields = λ x. ackCheck (x .«ack_flags»);
-  version = λ x. versionCheck (x .version);
+-- they ask 32 before all others, 7 for the acknowledgement flags and then the source ID, and 3 after the room
+abbrev pub commandIn : TcForm → Writer PusTcSecondaryHeader
+commandIn f = record {
+  kind = tc f;
+  first = λ x. formCheck f;
+  fields = fieldsCheck f;
+  version = λ x. versionIn f (x .version);
 }
+
+abbrev pub commandC : Writer PusTcSecondaryHeader
+commandC = commandIn formC

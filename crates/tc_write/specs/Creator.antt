@@ -15,9 +15,11 @@ use Rattle.ecss.specs.declared.CreatorConfig.{CreatorConfig}
 use Rattle.ecss.specs.declared.Crc16.{Crc16}
 use Rattle.ecss.specs.declared.Crc16.the-variants.{Some, None}
 use Rattle.ecss_write.specs.Writer.{contentBy, octetsBy, newBy, afreshBy, writeBy, bareBy, ownBy}
+use Rattle.tc_header.specs.Form.{formC, sameForm}
 use Rattle.tc_header.specs.Header.{sameSec}
-use Rattle.tc_write.specs.Command.{commandC}
+use Rattle.tc_write.specs.Command.{commandIn}
 use Rattle.tc_header.specs.declared.PusTcSecondaryHeader.{PusTcSecondaryHeader}
+use Rattle.tc_header.specs.declared.TcForm.{TcForm}
 use Rattle.tc_write.specs.declared.PusTcCreator.{PusTcCreator}
 use Rattle.tc_write.specs.declared.PusTcCreatorSet.{PusTcCreatorSet}
 use Rattle.tc_write.specs.declared.PusTcCreatorResult.{PusTcCreatorResult}
@@ -25,23 +27,29 @@ use Rattle.tc_write.specs.declared.PusTcCreatorResult.the-variants as R
 use Rattle.tc_write.specs.declared.ChecksumResult.{ChecksumResult}
 use Rattle.tc_write.specs.declared.ChecksumResult.the-variants as K
 
+abbrev pub creatorIn : TcForm → SpacePacketHeader → PusTcSecondaryHeader → Bool → PusTcCreator
+creatorIn f h x b = record { form = f; «sp_header» = h; «sec_header» = x; «has_checksum» = b }
+
 abbrev pub creatorOf : SpacePacketHeader → PusTcSecondaryHeader → Bool → PusTcCreator
-creatorOf h x b = record { «sp_header» = h; «sec_header» = x; «has_checksum» = b }
+creatorOf = creatorIn formC
 
 -- its octets before the checksum, and with it, where it has one
 abbrev pub contentFor : PusTcCreator → List ℕ → List ℕ
-contentFor t d = contentBy commandC (t .«sp_header») (t .«sec_header») d
+contentFor t d = contentBy (commandIn (t .form)) (t .«sp_header») (t .«sec_header») d
 
 abbrev pub octetsFor : PusTcCreator → List ℕ → List ℕ
-octetsFor t d = octetsBy commandC (t .«sp_header») (t .«sec_header») (t .«has_checksum») d
+octetsFor t d = octetsBy (commandIn (t .form)) (t .«sp_header») (t .«sec_header») (t .«has_checksum») d
 
 -- ---- the calls
 
--- construction: 7, and 6 where it sets the length
+-- construction: 32, 7, and 6 where it sets the length
+abbrev pub newIn : TcForm → SpacePacketHeader → PusTcSecondaryHeader → ℕ → CreatorConfig → Answer PusTcCreator
+newIn f h x n config =
+    newBy (commandIn f) h x (config .«has_checksum») (config .«set_ccsds_len») n
+    then λ g. gives (creatorIn f g x (config .«has_checksum»))
+
 abbrev pub newOf : SpacePacketHeader → PusTcSecondaryHeader → ℕ → CreatorConfig → Answer PusTcCreator
-newOf h x n config =
-    newBy commandC h x (config .«has_checksum») (config .«set_ccsds_len») n
-    then λ g. gives (creatorOf g x (config .«has_checksum»))
+newOf = newIn formC
 
 abbrev pub creatorAnswer : PusTcCreatorResult → Answer PusTcCreator
 creatorAnswer (R.Ok t) = gives t
@@ -56,18 +64,18 @@ abbrev pub creatorKept : PusTcCreatorSet → Kept PusTcCreator
 creatorKept r = record { passed = checkAnswer (r .result); kept = r .creator }
 
 abbrev pub withHeader : PusTcCreator → SpacePacketHeader → PusTcCreator
-withHeader t h = creatorOf h (t .«sec_header») (t .«has_checksum»)
+withHeader t h = creatorIn (t .form) h (t .«sec_header») (t .«has_checksum»)
 
 abbrev pub withSec : PusTcCreator → PusTcSecondaryHeader → PusTcCreator
-withSec t x = creatorOf (t .«sp_header») x (t .«has_checksum»)
+withSec t x = creatorIn (t .form) (t .«sp_header») x (t .«has_checksum»)
 
--- update_ccsds_data_len: 7, 6
+-- update_ccsds_data_len: 32, 7, 6
 abbrev pub updated : PusTcCreator → ℕ → Kept PusTcCreator
-updated t n = keptBy (withHeader t) (afreshBy commandC (t .«sp_header») (t .«sec_header») (t .«has_checksum») n)
+updated t n = keptBy (withHeader t) (afreshBy (commandIn (t .form)) (t .«sp_header») (t .«sec_header») (t .«has_checksum») n)
 
--- the checksum over all octets before it: 7, 3
+-- the checksum over all octets before it: 32, 7, 3
 abbrev pub ownChecksum : PusTcCreator → List ℕ → Answer ℕ
-ownChecksum t d = ownBy commandC (t .«sp_header») (t .«sec_header») d
+ownChecksum t d = ownBy (commandIn (t .form)) (t .«sp_header») (t .«sec_header») d
 
 -- the checksum that is written: none, or its own
 unfoldable pub checksumOf : PusTcCreator → List ℕ → Answer Crc16
@@ -77,13 +85,13 @@ abbrev pub checksumAnswer : ChecksumResult → Answer Crc16
 checksumAnswer (K.Ok c) = gives c
 checksumAnswer (K.Err e) = refuses (numbersOf e)
 
--- writing into a buffer of m octets: 7, 6 for the machine size, 1, 3
+-- writing into a buffer of m octets: 32, 7, 6 for the machine size, 1, 3
 abbrev pub writeOf : PusTcCreator → ℕ → ℕ → Answer ℕ
-writeOf t n m = writeBy commandC (t .«sp_header») (t .«sec_header») (t .«has_checksum») n m
+writeOf t n m = writeBy (commandIn (t .form)) (t .«sp_header») (t .«sec_header») (t .«has_checksum») n m
 
 -- and without the checksum, for which there still must be room
 abbrev pub bareOf : PusTcCreator → ℕ → ℕ → Answer ℕ
-bareOf t n m = bareBy commandC (t .«sp_header») (t .«sec_header») (t .«has_checksum») n m
+bareOf t n m = bareBy (commandIn (t .form)) (t .«sp_header») (t .«sec_header») (t .«has_checksum») n m
 
 -- the packet stands over the first octets of the buffer, and its length is answered; refused, the buffer is as it was
 abbrev pub PacketWrote : PusTcCreator → List ℕ → List ℕ → SizeResult → List ℕ → Type 0
@@ -93,9 +101,10 @@ PacketWrote t d before r after = Wrote (writeOf t (length d) (length before)) (o
 abbrev pub ContentWrote : PusTcCreator → List ℕ → List ℕ → SizeResult → List ℕ → Type 0
 ContentWrote t d before r after = Wrote (bareOf t (length d) (length before)) (contentFor t d) before r after
 
--- the headers, the data and the choice of checksum are the same
+-- the form, the headers, the data and the choice of checksum are the same
 unfoldable pub sameCreator : PusTcCreator → List ℕ → PusTcCreator → List ℕ → Bool
 sameCreator t d u e =
-    sameHeader (t .«sp_header») (u .«sp_header»)
+    sameForm (t .form) (u .form)
+    && (sameHeader (t .«sp_header») (u .«sp_header»)
     && (sameSec (t .«sec_header») (u .«sec_header»)
-    && (sameOctets d e && eqb (flagNumber (t .«has_checksum»)) (flagNumber (u .«has_checksum»))))
+    && (sameOctets d e && eqb (flagNumber (t .«has_checksum»)) (flagNumber (u .«has_checksum»)))))

@@ -1,11 +1,11 @@
-// PUS-C telecommands written, after ECSS-E-ST-70-41C: the creator and the builder. Their application data travel beside
-// them.
+// Telecommands written, after ECSS-E-ST-70-41C and, for PUS A, ECSS-E-70-41A: the creator and the builder. Their application data
+// travel beside them. The calls named after the Rust have PUS C; their siblings, which end in `_in`, take a form.
 ghost use mathlib.Core.Path.{_≡_};
 ghost use mathlib.Core.Bool.{true};
 ghost use lib.Dec.{eqb};
 ghost use lib.ListN.{length};
+ghost use Rattle.space_packet.specs.Answer.{gives, _then_, setIf, checkAnswer, sizeAnswer};
 ghost use Rattle.space_packet.specs.Bits.{pick};
-ghost use Rattle.space_packet.specs.Answer.{setIf, checkAnswer, sizeAnswer};
 ghost use Rattle.space_packet.specs.Fields.{apidCheck, countCheck, idWithApid, typeNumber, idRaw, pscRaw};
 ghost use Rattle.space_packet.specs.Header.{packetLen, withId, withPsc, pscFrom, idFrom, headerCheck, headerKept};
 ghost use Rattle.space_packet.specs.Wrote.{Wrote};
@@ -15,10 +15,11 @@ ghost use Rattle.ecss.specs.Version.{messageType};
 ghost use Rattle.ecss.specs.declared.PusVersion.the-variants.{PusC};
 ghost use Rattle.ecss_write.specs.Write.{machineTotal, crcAnswer, asksAnswer};
 ghost use Rattle.ecss_write.specs.Writer.{askedOf};
-ghost use Rattle.tc_header.specs.Header.{ackCheck, ackOf, secFrom, pusC};
-ghost use Rattle.tc_write.specs.Command.{commandC};
-ghost use Rattle.tc_write.specs.Creator.{creatorOf, newOf, creatorAnswer, keptBy, creatorKept, withHeader, withSec, updated, ownChecksum, checksumOf, checksumAnswer, contentFor, octetsFor, writeOf, bareOf, PacketWrote, ContentWrote, sameCreator};
-ghost use Rattle.tc_write.specs.Builder.{builderOf, defaultBuilder, builderKept};
+ghost use Rattle.tc_header.specs.Form.{formCheck, sourceLen, sourceCheck};
+ghost use Rattle.tc_header.specs.Header.{ackCheck, ackOf, secFrom, fieldsCheck, tc};
+ghost use Rattle.tc_write.specs.Command.{commandIn};
+ghost use Rattle.tc_write.specs.Creator.{creatorIn, newIn, newOf, creatorAnswer, keptBy, creatorKept, withHeader, withSec, updated, ownChecksum, checksumOf, checksumAnswer, contentFor, octetsFor, writeOf, bareOf, PacketWrote, ContentWrote, sameCreator};
+ghost use Rattle.tc_write.specs.Builder.{builderOf, builderIn, defaultBuilder, builderAnswer, builderKept};
 use ecss::Crc16;
 use ecss::CreatorConfig;
 use ecss::MessageTypeId;
@@ -44,28 +45,42 @@ pub use tc_header::AckFlags;
 pub use tc_header::PUC_TC_SECONDARY_HEADER_LEN;
 pub use tc_header::PUS_TC_MIN_LEN_WITHOUT_APP_DATA;
 pub use tc_header::PusTcSecondaryHeader;
+pub use tc_header::TcForm;
 
-// What writers ask of the secondary header: 7, and 3 after the room.
-pub fn asks(sec_header: PusTcSecondaryHeader) -> Asks
-    ensures { λ r. ⌜ asksAnswer r ≡ askedOf commandC «sec_header» ⌝ }
+// What writers ask of the form and the secondary header: 32 before all others, 7, and 3 after the room.
+pub fn asks(form: TcForm, sec_header: PusTcSecondaryHeader) -> Asks
+    ensures { λ r. ⌜ asksAnswer r ≡ askedOf (commandIn form) «sec_header» ⌝ }
 {
-    let ack = sec_header.ack_flags;
-    let fields = ack.check();
-    let version = sec_header.check_version();
+    let first = form.check();
+    let fields = sec_header.check_fields_in(form);
+    let version = sec_header.check_version_in(form);
     Asks {
-        first: CheckResult::Ok,
+        first,
         fields,
         version,
     }
 }
 
+// All four acknowledgements, source 0, and the form's version.
+fn simple(form: TcForm, message_type_id: MessageTypeId) -> PusTcSecondaryHeader
+    ensures { λ r. ⌜ r ≡ secFrom «message_type_id» (ackOf 15) 0 (form .version) ⌝ }
+{
+    PusTcSecondaryHeader {
+        message_type_id,
+        source_id: 0,
+        ack_flags: ACK_ALL,
+        version: form.version(),
+    }
+}
+
 // ---- the creator
 
-// A telecommand, but for its application data.
+// A telecommand of its form, but for its application data.
 pub struct PusTcCreator {
     sp_header: SpHeader,
     sec_header: PusTcSecondaryHeader,
     has_checksum: bool,
+    form: TcForm,
 }
 
 pub enum PusTcCreatorResult {
@@ -94,17 +109,37 @@ impl PusTcCreator {
     ) -> PusTcCreatorResult
         ensures { λ r. ⌜ creatorAnswer r ≡ newOf «sp_header» «sec_header» (length (now («app_data» .entry))) «packet_config» ⌝ }
     {
+        PusTcCreator::new_in(
+            TcForm::PUS_C,
+            sp_header,
+            sec_header,
+            app_data,
+            packet_config,
+        )
+    }
+
+    // 32, 7, 6.
+    pub fn new_in(
+        form: TcForm,
+        sp_header: SpHeader,
+        sec_header: PusTcSecondaryHeader,
+        app_data: &[u8],
+        packet_config: CreatorConfig,
+    ) -> PusTcCreatorResult
+        ensures { λ r. ⌜ creatorAnswer r ≡ newIn form «sp_header» «sec_header» (length (now («app_data» .entry))) «packet_config» ⌝ }
+    {
         let header = packet::as_type(sp_header, PacketType::Tc);
         let field = packet::length_for(
-            asks(sec_header),
+            asks(form, sec_header),
             header,
-            PUS_TC_MIN_LEN_WITHOUT_APP_DATA,
+            form.min_len_without_app_data(),
             app_data.len(),
             packet_config,
         );
         match field {
             DataLenResult::Err(e) => PusTcCreatorResult::Err(e),
             DataLenResult::Ok(n) => PusTcCreatorResult::Ok(PusTcCreator {
+                form,
                 sp_header: packet::with_length(header, n),
                 sec_header,
                 has_checksum: packet_config.has_checksum,
@@ -121,9 +156,22 @@ impl PusTcCreator {
     ) -> PusTcCreatorResult
         ensures { λ r. ⌜ creatorAnswer r ≡ newOf sph (secFrom «message_type_id» (ackOf 15) 0 PusC) (length (now («app_data» .entry))) «packet_config» ⌝ }
     {
-        PusTcCreator::new(
+        PusTcCreator::new_simple_in(TcForm::PUS_C, sph, message_type_id, app_data, packet_config)
+    }
+
+    pub fn new_simple_in(
+        form: TcForm,
+        sph: SpHeader,
+        message_type_id: MessageTypeId,
+        app_data: &[u8],
+        packet_config: CreatorConfig,
+    ) -> PusTcCreatorResult
+        ensures { λ r. ⌜ creatorAnswer r ≡ newIn form sph (secFrom «message_type_id» (ackOf 15) 0 (form .version)) (length (now («app_data» .entry))) «packet_config» ⌝ }
+    {
+        PusTcCreator::new_in(
+            form,
             sph,
-            PusTcSecondaryHeader::new(message_type_id, ACK_ALL, 0),
+            simple(form, message_type_id),
             app_data,
             packet_config,
         )
@@ -136,8 +184,19 @@ impl PusTcCreator {
     ) -> PusTcCreatorResult
         ensures { λ r. ⌜ creatorAnswer r ≡ newOf «sp_header» «sec_header» 0 «packet_config» ⌝ }
     {
+        PusTcCreator::new_no_app_data_in(TcForm::PUS_C, sp_header, sec_header, packet_config)
+    }
+
+    pub fn new_no_app_data_in(
+        form: TcForm,
+        sp_header: SpHeader,
+        sec_header: PusTcSecondaryHeader,
+        packet_config: CreatorConfig,
+    ) -> PusTcCreatorResult
+        ensures { λ r. ⌜ creatorAnswer r ≡ newIn form «sp_header» «sec_header» 0 «packet_config» ⌝ }
+    {
         let none = [0u8; 0];
-        PusTcCreator::new(sp_header, sec_header, &none, packet_config)
+        PusTcCreator::new_in(form, sp_header, sec_header, &none, packet_config)
     }
 
     pub fn builder() -> PusTcBuilder
@@ -146,7 +205,19 @@ impl PusTcCreator {
         PusTcBuilder::new()
     }
 
+    pub fn builder_in(form: TcForm) -> PusTcBuilderResult
+        ensures { λ r. ⌜ builderAnswer r ≡ (formCheck form then λ _. gives (builderIn form)) ⌝ }
+    {
+        PusTcBuilder::new_in(form)
+    }
+
     // ---- reading
+
+    pub fn form(self) -> TcForm
+        ensures { λ r. ⌜ r ≡ self .form ⌝ }
+    {
+        self.form
+    }
 
     pub fn sp_header(self) -> SpHeader
         ensures { λ r. ⌜ r ≡ self .«sp_header» ⌝ }
@@ -331,12 +402,14 @@ impl PusTcCreator {
         self.kept_if(sp_header.check(), self.with_header(sp_header))
     }
 
-    // Replaces the secondary header; a version other than C is taken, and no write takes it.
+    // Replaces the secondary header; a version other than the form's is taken, and no write takes it.
     pub fn set_sec_header(self, sec_header: PusTcSecondaryHeader) -> PusTcCreatorSet
-        ensures { λ r. ⌜ creatorKept r ≡ setIf (ackCheck («sec_header» .«ack_flags»)) self (withSec self «sec_header») ⌝ }
+        ensures { λ r. ⌜ creatorKept r ≡ setIf (fieldsCheck (self .form) «sec_header») self (withSec self «sec_header») ⌝ }
     {
-        let ack = sec_header.ack_flags;
-        self.kept_if(ack.check(), self.with_sec(sec_header))
+        self.kept_if(
+            sec_header.check_fields_in(self.form),
+            self.with_sec(sec_header),
+        )
     }
 
     // The creator that was set, or where the check was refused this one.
@@ -393,33 +466,46 @@ impl PusTcCreator {
     {
         let mut x = self.sec_header;
         x.ack_flags = ack_flags;
-        self.set_sec_header(x)
+        self.kept_if(ack_flags.check(), self.with_sec(x))
     }
 
-    pub fn set_source_id(self, source_id: u16) -> PusTcCreator
-        ensures { λ r. ⌜ r ≡ withSec self (secFrom (self .«sec_header» .«message_type_id») (self .«sec_header» .«ack_flags») «source_id» (self .«sec_header» .version)) ⌝ }
+    // 7 where it is over the form's width; PUS C takes every one.
+    pub fn set_source_id(self, source_id: u16) -> PusTcCreatorSet
+        ensures { λ r. ⌜ creatorKept r ≡ setIf (sourceCheck (sourceLen (self .form)) «source_id») self (withSec self (secFrom (self .«sec_header» .«message_type_id») (self .«sec_header» .«ack_flags») «source_id» (self .«sec_header» .version))) ⌝ }
     {
+        let form = self.form;
         let mut x = self.sec_header;
         x.source_id = source_id;
-        self.with_sec(x)
+        self.kept_if(form.check_source_id(source_id), self.with_sec(x))
     }
 
-    // Sets the length field afresh for this data; 7, 6.
+    // Sets the length field afresh for this data; 32, 7, 6.
     pub fn update_ccsds_data_len(self, app_data: &[u8]) -> PusTcCreatorSet
         ensures { λ r. ⌜ creatorKept r ≡ updated self (length (now («app_data» .entry))) ⌝ }
     {
+        let form = self.form;
         let h = self.sp_header;
         let x = self.sec_header;
-        let start = PUS_TC_MIN_LEN_WITHOUT_APP_DATA;
-        self.edited(packet::length_afresh(asks(x), h, start, app_data.len(), self.has_checksum))
+        let start = form.min_len_without_app_data();
+        self.edited(packet::length_afresh(
+            asks(form, x),
+            h,
+            start,
+            app_data.len(),
+            self.has_checksum,
+        ))
     }
 
-    // Whether the headers, the data and the choice of checksum are the same.
+    // Whether the form, the headers, the data and the choice of checksum are the same.
     pub fn eq(self, app_data: &[u8], other: PusTcCreator, other_app_data: &[u8]) -> bool
         ensures { λ r. ⌜ r ≡ sameCreator self (now («app_data» .entry)) other (now («other_app_data» .entry)) ⌝ }
     {
+        let form = self.form;
         let h = self.sp_header;
         let x = self.sec_header;
+        if !form.eq(other.form) {
+            return false;
+        }
         if !h.eq(other.sp_header) {
             return false;
         }
@@ -434,25 +520,32 @@ impl PusTcCreator {
 
     // ---- octets
 
-    // The length of the packet, its checksum included; 6.
+    // The length of the packet, its checksum included; 32, 6.
     pub fn len_written(self, app_data: &[u8]) -> SizeResult
-        ensures { λ r. ⌜ sizeAnswer r ≡ machineTotal (startOf pusC) (self .«has_checksum») (length (now («app_data» .entry))) ⌝ }
+        ensures { λ r. ⌜ sizeAnswer r ≡ (formCheck (self .form) then λ _. machineTotal (startOf (tc (self .form))) (self .«has_checksum») (length (now («app_data» .entry)))) ⌝ }
     {
+        let form = self.form;
+        let c = form.check();
+        if let CheckResult::Err(e) = c {
+            return SizeResult::Err(e);
+        }
         ecss_write::total_of(
-            PUS_TC_MIN_LEN_WITHOUT_APP_DATA,
+            form.min_len_without_app_data(),
             app_data.len(),
             self.has_checksum,
         )
     }
 
-    // The checksum over the headers and the data; 7, 3.
+    // The checksum over the headers and the data; 32, 7, 3.
     pub fn calc_own_crc16(self, app_data: &[u8]) -> CrcResult
         ensures { λ r. ⌜ crcAnswer r ≡ ownChecksum self (now («app_data» .entry)) ⌝ }
     {
+        let form = self.form;
         let x = self.sec_header;
-        let mut sec = [0u8; PusTcSecondaryHeader::HEADER_LEN];
-        x.write_to_slice(&mut sec);
-        packet::own_checksum(asks(x), self.sp_header, &sec, app_data)
+        let mut sec = [0u8; TcForm::MAX_SEC_HEADER_LEN];
+        x.write_to_slice_in(form, &mut sec);
+        let second = frame::front(&sec, form.sec_header_len());
+        packet::own_checksum(asks(form, x), self.sp_header, second, app_data)
     }
 
     pub fn calc_own_crc16_no_table(self, app_data: &[u8]) -> CrcResult
@@ -461,7 +554,7 @@ impl PusTcCreator {
         self.calc_own_crc16(app_data)
     }
 
-    // The name of the trait PusPacket: none where no checksum is written, and otherwise the packet's own; 7, 3.
+    // The name of the trait PusPacket: none where no checksum is written, and otherwise the packet's own; 32, 7, 3.
     pub fn checksum(self, app_data: &[u8]) -> ChecksumResult
         ensures { λ r. ⌜ checksumAnswer r ≡ checksumOf self (now («app_data» .entry)) ⌝ }
     {
@@ -475,8 +568,8 @@ impl PusTcCreator {
         }
     }
 
-    // Writes the packet over the first octets of the buffer and answers how many; 7, 6, 1, 3. No write takes a table for its
-    // checksum, whatever its name: without one is faster at every length of a packet.
+    // Writes the packet over the first octets of the buffer and answers how many; 32, 7, 6, 1, 3. No write takes a table for
+    // its checksum, whatever its name: without one is faster at every length of a packet.
     pub fn write_to_slice(self, app_data: &[u8], buf: &mut [u8]) -> SizeResult
         ensures { λ r. ⌜ PacketWrote self (now («app_data» .entry)) (now (buf .entry)) r (now (buf .exit)) ⌝ }
     {
@@ -500,16 +593,17 @@ impl PusTcCreator {
     fn put(self, app_data: &[u8], bare: bool, buf: &mut [u8]) -> SizeResult
         ensures { λ r. ⌜ Wrote (pick «bare» bareOf writeOf self (length (now («app_data» .entry))) (length (now (buf .entry)))) (pick «bare» contentFor octetsFor self (now («app_data» .entry))) (now (buf .entry)) r (now (buf .exit)) ⌝ }
     {
+        let form = self.form;
         let x = self.sec_header;
         let h = self.sp_header;
         let has_checksum = self.has_checksum;
-        let mut sec = [0u8; PusTcSecondaryHeader::HEADER_LEN];
-        x.write_to_slice(&mut sec);
-        let asked = asks(x);
+        let mut sec = [0u8; TcForm::MAX_SEC_HEADER_LEN];
+        x.write_to_slice_in(form, &mut sec);
+        let second = frame::front(&sec, form.sec_header_len());
         if bare {
-            return packet::write_bare(asked, h, &sec, app_data, has_checksum, buf);
+            return packet::write_bare(asks(form, x), h, second, app_data, has_checksum, buf);
         }
-        packet::write(asked, h, &sec, app_data, has_checksum, buf)
+        packet::write(asks(form, x), h, second, app_data, has_checksum, buf)
     }
 
     // The names of the trait WritablePusPacket.
@@ -530,6 +624,11 @@ impl PusTcCreator {
 
 // A creator in the making. The data is handed to build.
 pub struct PusTcBuilder(PusTcCreator);
+
+pub enum PusTcBuilderResult {
+    Ok(PusTcBuilder),
+    Err(PusError),
+}
 
 // What a setter hands back: the new builder, or the old one with the refusal.
 pub struct PusTcBuilderSet {
@@ -553,10 +652,28 @@ impl PusTcBuilder {
     pub fn new() -> PusTcBuilder
         ensures { λ r. ⌜ r ≡ defaultBuilder ⌝ }
     {
+        PusTcBuilder::defaults(TcForm::PUS_C)
+    }
+
+    // 32.
+    pub fn new_in(form: TcForm) -> PusTcBuilderResult
+        ensures { λ r. ⌜ builderAnswer r ≡ (formCheck form then λ _. gives (builderIn form)) ⌝ }
+    {
+        let c = form.check();
+        if let CheckResult::Err(e) = c {
+            return PusTcBuilderResult::Err(e);
+        }
+        PusTcBuilderResult::Ok(PusTcBuilder::defaults(form))
+    }
+
+    fn defaults(form: TcForm) -> PusTcBuilder
+        ensures { λ r. ⌜ r ≡ builderIn form ⌝ }
+    {
         let h = SpHeader::default();
         PusTcBuilder(PusTcCreator {
+            form,
             sp_header: packet::as_type(h, PacketType::Tc),
-            sec_header: PusTcSecondaryHeader::new(MessageTypeId::new(0, 0), ACK_ALL, 0),
+            sec_header: simple(form, MessageTypeId::new(0, 0)),
             has_checksum: true,
         })
     }
@@ -618,11 +735,12 @@ impl PusTcBuilder {
         self.with_message_type_id(MessageTypeId::new(t.service_type_id(), subtype_id))
     }
 
-    pub fn with_source_id(self, source_id: u16) -> PusTcBuilder
-        ensures { λ r. ⌜ r ≡ builderOf (withSec (self .0) (secFrom (self .0 .«sec_header» .«message_type_id») (self .0 .«sec_header» .«ack_flags») «source_id» (self .0 .«sec_header» .version))) ⌝ }
+    // 7 where it is over the form's width; PUS C takes every one.
+    pub fn with_source_id(self, source_id: u16) -> PusTcBuilderSet
+        ensures { λ r. ⌜ builderKept r ≡ setIf (sourceCheck (sourceLen (self .0 .form)) «source_id») self (builderOf (withSec (self .0) (secFrom (self .0 .«sec_header» .«message_type_id») (self .0 .«sec_header» .«ack_flags») «source_id» (self .0 .«sec_header» .version)))) ⌝ }
     {
         let t = self.0;
-        PusTcBuilder(t.set_source_id(source_id))
+        builder_set(t.set_source_id(source_id))
     }
 
     pub fn with_ack_flags(self, ack_flags: AckFlags) -> PusTcBuilderSet
@@ -640,21 +758,22 @@ impl PusTcBuilder {
     }
 
     pub fn with_checksum(self, has_checksum: bool) -> PusTcBuilder
-        ensures { λ r. ⌜ r ≡ builderOf (creatorOf (self .0 .«sp_header») (self .0 .«sec_header») «has_checksum») ⌝ }
+        ensures { λ r. ⌜ r ≡ builderOf (creatorIn (self .0 .form) (self .0 .«sp_header») (self .0 .«sec_header») «has_checksum») ⌝ }
     {
         let mut t = self.0;
         t.has_checksum = has_checksum;
         PusTcBuilder(t)
     }
 
-    // The creator of this data, with its length set; 7, 6.
+    // The creator of this data, with its length set; 32, 7, 6.
     pub fn build(self, app_data: &[u8]) -> PusTcCreatorResult
-        ensures { λ r. ⌜ creatorAnswer r ≡ newOf (self .0 .«sp_header») (self .0 .«sec_header») (length (now («app_data» .entry))) (record { «set_ccsds_len» = true; «has_checksum» = self .0 .«has_checksum» }) ⌝ }
+        ensures { λ r. ⌜ creatorAnswer r ≡ newIn (self .0 .form) (self .0 .«sp_header») (self .0 .«sec_header») (length (now («app_data» .entry))) (record { «set_ccsds_len» = true; «has_checksum» = self .0 .«has_checksum» }) ⌝ }
     {
         let t = self.0;
         let sp_header = t.sp_header;
         let sec_header = t.sec_header;
-        PusTcCreator::new(
+        PusTcCreator::new_in(
+            t.form,
             sp_header,
             sec_header,
             app_data,

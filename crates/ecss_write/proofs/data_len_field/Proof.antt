@@ -1,9 +1,9 @@
 -- `ecss_write::data_len_field` meets its contract: the refusal of the total or of the limit, or the field of the total.
 use mathlib.Core.Path.{sym, ap, _∙_}
 use Rattle.space_packet.specs.Answer.{gives, sizeAnswer}
-use Rattle.space_packet.proofs.Answers.{gives-then, refuses-then}
+use Rattle.space_packet.proofs.Answers.{gives-then, refuses-then, then-of}
 use Rattle.ecss_write.specs.Write.{lengthField}
-use Rattle.ecss_write.proofs.Totals.{then-of, limit-first, limited-most}
+use Rattle.ecss_write.proofs.Totals.{limit-first, limited-most}
 use borrow.Author.Needs.{needs}
 use Rattle.ecss_write.proofs.data_len_field.Statement.{statement}
 use Rattle.ecss_write.proofs.data_len_field.Tie as tie

@@ -1,28 +1,43 @@
 -- `tc_demand3::built` meets its contract: what may be handed in is not refused, and its creator is under the rules of `written`.
-use mathlib.Core.Path.{_≡_, sym, ap, subst, _∙_}
+use Prim.Native.Nat.{ℕ}
+use mathlib.Core.Path.{_≡_, refl, sym, ap, _∙_, subst}
 use mathlib.Core.Bool.{Bool, true}
+use mathlib.Core.List.{List}
 use lib.ListN.{length}
 use Rattle.space_packet.specs.Answer.{gives}
 use Rattle.space_packet.proofs.Answers.{gives-inj, gives-then, never}
 use Rattle.ecss.specs.Kind.{Rules}
 use Rattle.ecss_write.specs.Writer.{packetBy, madeBy, Handed}
-use Rattle.exactness.proofs.Given.{handed-rules, handed-new}
-use Rattle.tc_header.specs.Header.{pusC}
-use Rattle.tc_write.specs.Command.{commandC}
-use Rattle.tc_write.proofs.Command.{writer-laws}
-use Rattle.tc_write.specs.Creator.{creatorOf, newOf, creatorAnswer}
+use Rattle.exactness.proofs.Given.{handed-new, handed-rules}
+use Rattle.tc_header.specs.Form.{formCheck}
+use Rattle.tc_header.specs.Header.{tc}
+use Rattle.tc_header.specs.declared.TcForm.{TcForm}
+use Rattle.tc_write.specs.Command.{commandIn}
+use Rattle.tc_write.specs.Creator.{creatorIn, newIn, creatorAnswer}
 use Rattle.tc_write.specs.declared.PusTcCreator.{PusTcCreator}
-use Rattle.tc_demand3.specs.Rules.{Telecommand, reportFor}
+use Rattle.tc_write.proofs.Command.{writer-laws}
+use Rattle.tc_strict.specs.declared.Verdict.{Verdict}
+use Rattle.tc_demand3.specs.Rules.{Telecommand, Accepts, Fits, madeOf}
 use borrow.Author.Needs.{needs}
 use Rattle.tc_demand3.proofs.built.Statement.{statement}
 use Rattle.tc_demand3.proofs.built.Tie as tie
 
-built-given : (p : Telecommand) (b : Bool) → b ≡ true → Handed pusC p
-    → newOf (p .primary) (p .secondary) (length (p .user)) (record { «set_ccsds_len» = true; «has_checksum» = b })
-    ≡ gives (creatorOf (madeBy commandC (p .primary) (p .user)) (p .secondary) true)
-built-given p b h g =
-    ap (λ (z : Bool). newOf (p .primary) (p .secondary) (length (p .user)) (record { «set_ccsds_len» = true; «has_checksum» = z })) h
-    ∙ gives-then _ _ _ (handed-new commandC writer-laws (p .primary) (p .secondary) (p .user) g)
+built-given : (f : TcForm) → formCheck f ≡ gives tt → (p : Telecommand) (b : Bool) → b ≡ true → Handed (tc f) p
+    → newIn f (p .primary) (p .secondary) (length (p .user)) (record { «set_ccsds_len» = true; «has_checksum» = b })
+    ≡ gives (creatorIn f (madeBy (commandIn f) (p .primary) (p .user)) (p .secondary) true)
+built-given f good p b h g =
+    ap (λ (z : Bool). newIn f (p .primary) (p .secondary) (length (p .user)) (record { «set_ccsds_len» = true; «has_checksum» = z })) h
+    ∙ gives-then _ _ _ (handed-new (commandIn f) (writer-laws f good) (p .primary) (p .secondary) (p .user) g)
+
+-- what is made has that form and a checksum, and is under the rules
+made-judged : (f : TcForm) → formCheck f ≡ gives tt → (t : PusTcCreator) (p : Telecommand) (before : List ℕ) (v : Verdict) → Handed (tc f) p → Fits f (p .user) before
+    → t ≡ creatorIn f (madeBy (commandIn f) (p .primary) (p .user)) (p .secondary) true
+    → (formCheck (t .form) ≡ gives tt → t .«has_checksum» ≡ true → Rules (tc (t .form)) (packetBy (t .«sp_header») (t .«sec_header») (p .user)) → Fits (t .form) (p .user) before
+    → Accepts (t .form) v (packetBy (t .«sp_header») (t .«sec_header») (p .user)))
+    → Accepts f v (madeOf f p)
+made-judged f good t p before v g k e w =
+    subst (λ (u : PusTcCreator). formCheck (u .form) ≡ gives tt → u .«has_checksum» ≡ true → Rules (tc (u .form)) (packetBy (u .«sp_header») (u .«sec_header») (p .user)) → Fits (u .form) (p .user) before → Accepts (u .form) v (packetBy (u .«sp_header») (u .«sec_header») (p .user))) e w
+    good refl (handed-rules (commandIn f) (writer-laws f good) (p .primary) (p .secondary) (p .user) g) k
 
 build-requires : tie.Need-build-requires
 build-requires c κs = search needs
@@ -39,9 +54,9 @@ written-requires c κs = search needs
 returns : tie.Need-returns
 returns c =
     let a = c .before .before .before .before .before .before .args in
-    let d = a .app-data .now in
-    λ h g k.
-    let m = sym (ap creatorAnswer (c .before .made .given .1)) ∙ c .before .before .before .build .ensures ∙ built-given (packetBy (a .builder .0 .«sp_header») (a .builder .0 .«sec_header») d) (a .builder .0 .«has_checksum») h g in
+    let t = a .builder .0 in
+    λ good h g k.
+    let m = sym (ap creatorAnswer (c .before .made .given .1)) ∙ c .before .before .before .build .ensures ∙ built-given (t .form) good (packetBy (t .«sp_header») (t .«sec_header») (a .app-data .now)) (t .«has_checksum») h g in
     absurd (never _ _ m)
 
 same-length : tie.Need-same-length
@@ -50,12 +65,11 @@ same-length c = search needs
 returns-2 : tie.Need-returns-2
 returns-2 c =
     let a = c .before .before .before .before .before .before .before .before .before .before .args in
-    let d = a .app-data .now in
-    λ h g k.
-    let m = sym (ap creatorAnswer (c .before .before .before .before .before .made2 .given .1)) ∙ c .before .before .before .before .before .before .before .build .ensures ∙ built-given (packetBy (a .builder .0 .«sp_header») (a .builder .0 .«sec_header») d) (a .builder .0 .«has_checksum») h g in
-    let e = gives-inj _ _ m in
-    c .before .before .written .ensures (ap (λ (t : PusTcCreator). t .«has_checksum») e) (subst (λ (t : PusTcCreator). Rules pusC (packetBy (t .«sp_header») (t .«sec_header») d)) (sym e) (handed-rules commandC writer-laws (a .builder .0 .«sp_header») (a .builder .0 .«sec_header») d g)) k
-    ∙ ap (λ (t : PusTcCreator). gives (reportFor (packetBy (t .«sp_header») (t .«sec_header») d))) e
+    let t = a .builder .0 in
+    let p = packetBy (t .«sp_header») (t .«sec_header») (a .app-data .now) in
+    λ good h g k.
+    let m = sym (ap creatorAnswer (c .before .before .before .before .before .made2 .given .1)) ∙ c .before .before .before .before .before .before .before .build .ensures ∙ built-given (t .form) good p (t .«has_checksum») h g in
+    made-judged (t .form) good _ p (a .buf .now) (c .before .before .written .result) g k (gives-inj _ _ m) (c .before .before .written .ensures)
 
 pub built-spec : {M : Type 1} → statement M
 built-spec =

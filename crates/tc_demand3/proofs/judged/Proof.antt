@@ -7,19 +7,21 @@ use borrow.Author.Needs.{needs}
 use Rattle.tc_demand3.proofs.judged.Statement.{statement}
 use Rattle.tc_demand3.proofs.judged.Tie as tie
 
-judge-requires : tie.Need-judge-requires
-judge-requires c κs = search needs
+judge-in-requires : tie.Need-judge-in-requires
+judge-in-requires c κs = search needs
 
 returns : tie.Need-returns
 returns c =
-    let s = c .before .before .args .octets .now in
-    let e = c .judge .ensures in
+    let a = c .before .before .args in
+    let s = a .octets .now in
+    let e = c .judge-in .ensures in
     let o : Octets s = λ i. omega (arith, c .before .shared-slice-known .given i) in
-    let t = exactly s o in
+    λ good.
+    let t = exactly (a .form) good s o in
     record {
-      exactly = (λ a. t .0 (a .0, sym e ∙ a .1), λ b. let r = t .1 b in (r .0, e ∙ r .1));
-      reports = λ p b. e ∙ reports s p b;
+      exactly = (λ v. t .0 (v .0, sym e ∙ v .1), λ b. let r = t .1 b in (r .0, e ∙ r .1));
+      reports = λ p b. e ∙ reports (a .form) good s p b;
     }
 
 pub judged-spec : {M : Type 1} → statement M
-judged-spec = tie.close (tie.spec judge-requires returns)
+judged-spec = tie.close (tie.spec judge-in-requires returns)

@@ -11,11 +11,13 @@ use Rattle.space_packet.specs.declared.SizeResult.{SizeResult}
 use Rattle.space_packet.proofs.Answers.{gives-inj, never}
 use Rattle.ecss_write.specs.Writer.{packetBy, Handed}
 use Rattle.reserve.specs.Reserve.{fillIn, filledBy, finishIn, finished}
-use Rattle.tc_header.specs.Header.{pusC}
-use Rattle.tc_reserved.specs.Reserved.{reserveOf, reservedAnswer, reservedLeft}
+use Rattle.tc_header.specs.Form.{formCheck}
+use Rattle.tc_header.specs.Header.{tc}
+use Rattle.tc_header.specs.declared.TcForm.{TcForm}
+use Rattle.tc_reserved.specs.Reserved.{reserveIn, reservedAnswer, reservedLeftIn}
 use Rattle.tc_reserved.specs.declared.PusTcCreatorWithReservedAppData.{PusTcCreatorWithReservedAppData}
-use Rattle.tc_read.specs.Read.{startC}
-use Rattle.tc_strict.specs.Verdict.{strictOf}
+use Rattle.tc_read.specs.Read.{startIn}
+use Rattle.tc_strict.specs.Verdict.{strictIn}
 use Rattle.tc_demand3.specs.Rules.{Telecommand, madeOf, Room, reportFor, FinishedBy}
 use Rattle.tc_demand3.proofs.Demand3.{reserved-accepted}
 use borrow.Author.Needs.{needs}
@@ -23,19 +25,21 @@ use Rattle.tc_demand3.proofs.reserved.Statement.{statement}
 use Rattle.tc_demand3.proofs.reserved.Tie as tie
 
 -- what the three calls leave, one after the other
-accepted : (p : Telecommand) (before : List ℕ) → Handed pusC p → Room (p .user) before
-    → (q : PusTcCreatorWithReservedAppData) (l m after : List ℕ) (r : SizeResult) → gives q ≡ reserveOf (p .primary) (p .secondary) (length (p .user)) true (length before)
-    → l ≡ reservedLeft (p .primary) (p .secondary) (length (p .user)) true before
-    → m ≡ filledBy (fillIn startC (q .0) (length l) (length (p .user))) startC (p .user) l → Wrote (finishIn startC (q .0) (length m)) (finished (q .0) m) m r after
-    → strictOf after ≡ gives (reportFor (madeOf p))
-accepted p before g k q l m after r e o f w =
-    let t = reserved-accepted p before g k in
+accepted : (f : TcForm) (good : formCheck f ≡ gives tt) (p : Telecommand) (before : List ℕ) → Handed (tc f) p → Room f (p .user) before
+    → (q : PusTcCreatorWithReservedAppData) (l m after : List ℕ) (r : SizeResult)
+    → gives q ≡ reserveIn f (p .primary) (p .secondary) (length (p .user)) true (length before)
+    → l ≡ reservedLeftIn f (p .primary) (p .secondary) (length (p .user)) true before
+    → m ≡ filledBy (fillIn (startIn (q .form)) (q .held) (length l) (length (p .user))) (startIn (q .form)) (p .user) l
+    → Wrote (finishIn (startIn (q .form)) (q .held) (length m)) (finished (q .held) m) m r after
+    → strictIn f after ≡ gives (reportFor f (madeOf f p))
+accepted f good p before g k q l m after r e o h w =
+    let t = reserved-accepted f good p before g k in
     let i : q ≡ t .0 = gives-inj _ _ (e ∙ t .1) in
-    let b : FinishedBy q p before r after = record { headed = l; filled = m; reserves = o; fills = f; finishes = w } in
-    t .2 r after (subst (λ (z : PusTcCreatorWithReservedAppData). FinishedBy z p before r after) i b) .accepted
+    let b : FinishedBy f q p before r after = record { headed = l; filled = m; reserves = o; fills = h; finishes = w } in
+    t .2 r after (subst (λ (z : PusTcCreatorWithReservedAppData). FinishedBy f z p before r after) i b) .accepted
 
-new-requires : tie.Need-new-requires
-new-requires c κs = search needs
+new-in-requires : tie.Need-new-in-requires
+new-in-requires c κs = search needs
 
 enum-known-made : tie.Need-enum-known-made
 enum-known-made c = search needs
@@ -49,8 +53,8 @@ fill-app-data-requires c κs = search needs
 finish-requires : tie.Need-finish-requires
 finish-requires c κs = search needs
 
-judge-requires : tie.Need-judge-requires
-judge-requires c κs = search needs
+judge-in-requires : tie.Need-judge-in-requires
+judge-in-requires c κs = search needs
 
 same-length : tie.Need-same-length
 same-length c = search needs
@@ -58,9 +62,9 @@ same-length c = search needs
 returns : tie.Need-returns
 returns c =
     let a = c .before .before .before .before .before .before .before .before .before .args in
-    λ g k.
-    let t = reserved-accepted (packetBy (a .sp-header) (a .sec-header) (a .app-data .now)) (a .buf .now) g (record { fits = k; is-slice = omega arith }) in
-    let m = sym (ap reservedAnswer (c .before .made .given .1)) ∙ c .before .before .before .before .before .new .ensures .0 ∙ t .1 in
+    λ good g k.
+    let t = reserved-accepted (a .form) good (packetBy (a .sp-header) (a .sec-header) (a .app-data .now)) (a .buf .now) g (record { fits = k; is-slice = omega arith }) in
+    let m = sym (ap reservedAnswer (c .before .made .given .1)) ∙ c .before .before .before .before .before .new-in .ensures .0 ∙ t .1 in
     absurd (never _ _ m)
 
 same-length-2 : tie.Need-same-length-2
@@ -69,21 +73,21 @@ same-length-2 c = search needs
 returns-2 : tie.Need-returns-2
 returns-2 c =
     let a = c .before .before .before .before .before .before .before .before .before .before .before .before .before .before .before .before .before .before .before .args in
-    λ g k.
-    c .judge .ensures
-    ∙ accepted (packetBy (a .sp-header) (a .sec-header) (a .app-data .now)) (a .buf .now) g (record { fits = k; is-slice = omega (arith, c .before .before .before .before .before .before .before .before .before .before .before .before .before .before .before .before .before .before .before .good) }) _ _ _ _ _
-    (sym (ap reservedAnswer (c .before .before .before .before .before .before .before .before .before .before .before .made2 .given .1)) ∙ c .before .before .before .before .before .before .before .before .before .before .before .before .before .before .before .new .ensures .0) (c .before .before .before .before .before .before .before .before .before .before .before .before .before .before .before .new .ensures .1) (c .before .before .before .before .before .before .before .before .fill-app-data .ensures .1) (c .before .before .before .before .finish .ensures)
+    λ good g k.
+    c .judge-in .ensures
+    ∙ accepted (a .form) good (packetBy (a .sp-header) (a .sec-header) (a .app-data .now)) (a .buf .now) g (record { fits = k; is-slice = omega (arith, c .before .before .before .before .before .before .before .before .before .before .before .before .before .before .before .before .before .before .before .good) }) _ _ _ _ _
+    (sym (ap reservedAnswer (c .before .before .before .before .before .before .before .before .before .before .before .made2 .given .1)) ∙ c .before .before .before .before .before .before .before .before .before .before .before .before .before .before .before .new-in .ensures .0) (c .before .before .before .before .before .before .before .before .before .before .before .before .before .before .before .new-in .ensures .1) (c .before .before .before .before .before .before .before .before .fill-app-data .ensures .1) (c .before .before .before .before .finish .ensures)
 
 pub reserved-spec : {M : Type 1} → statement M
 reserved-spec =
     tie.close
     (tie.spec
-    new-requires
+    new-in-requires
     enum-known-made
     enum-known-made-2
     fill-app-data-requires
     finish-requires
-    judge-requires
+    judge-in-requires
     same-length
     returns
     same-length-2

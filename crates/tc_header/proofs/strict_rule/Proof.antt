@@ -1,4 +1,4 @@
--- `tc_header::strict_rule` meets its contract: PUS C asks nothing besides what every kind shares.
+-- `tc_header::strict_rule` meets its contract: a telecommand asks nothing besides what every kind shares.
 use Prim.Native.Nat.{ℕ}
 use mathlib.Core.Path.{sym, ap₂, _∙_}
 use mathlib.Core.List.{[]}
@@ -21,9 +21,8 @@ pus-rule-requires c κs = search needs
 
 returns : tie.Need-returns
 unfolding strictRule
-returns c =
-    let h = c .before .before .before .before .args .h in
-    c .pus-rule .ensures ∙ ap₂ (λ (v o : ℕ). pusRule Tc (refusal 10 []) v h o) (c .before .before .raw-value .ensures) (c .before .first-octet .ensures)
+returns c = let a = c .before .before .before .before .args in
+    c .pus-rule .ensures ∙ ap₂ (λ (v o : ℕ). pusRule Tc (refusal 10 []) v (a .h) o) (c .before .before .raw-value .ensures) (c .before .first-octet .ensures)
     ∙ sym (then-same _)
 
 pub strict-rule-spec : {M : Type 1} → statement M

@@ -1,4 +1,4 @@
--- `reservation` meets its contract: what `then` makes of an answer, case by case.
+-- `tc_reserved::reservation` meets its contract: what `then` makes of an answer, case by case; the start is the form's.
 use mathlib.Core.Path.{sym, ap}
 use Rattle.space_packet.specs.Answer.{sizeAnswer}
 use Rattle.space_packet.proofs.Answers.{gives-then, refuses-then}
@@ -12,11 +12,22 @@ enum-known-reserved c = search needs
 enum-known-reserved-2 : tie.Need-enum-known-reserved-2
 enum-known-reserved-2 c = search needs
 
+min-len-without-app-data-requires : tie.Need-min-len-without-app-data-requires
+min-len-without-app-data-requires c κs = search needs
+
 returns : tie.Need-returns
 returns c = sym (refuses-then _ _ _ (ap sizeAnswer (c .before .reserved .given .1)))
 
 returns-2 : tie.Need-returns-2
-returns-2 c = sym (gives-then _ _ _ (ap sizeAnswer (c .before .reserved2 .given .1)))
+returns-2 c =
+    rw (c .min-len-without-app-data .ensures) (sym (gives-then _ _ _ (ap sizeAnswer (c .before .before .reserved2 .given .1))))
 
 pub reservation-spec : {M : Type 1} → statement M
-reservation-spec = tie.close (tie.spec enum-known-reserved enum-known-reserved-2 returns returns-2)
+reservation-spec =
+    tie.close
+    (tie.spec
+    enum-known-reserved
+    enum-known-reserved-2
+    min-len-without-app-data-requires
+    returns
+    returns-2)

@@ -1,6 +1,4 @@
--- `tc_write::asks` meets its contract: nothing first, and what the two checks answer.
-use mathlib.Core.Path.{ap₂}
-use Rattle.space_packet.specs.Answer.{Passed, gives}
+-- `tc_write::asks` meets its contract: what the three checks answer.
 use borrow.Author.Needs.{needs}
 use Rattle.tc_write.proofs.asks.Statement.{statement}
 use Rattle.tc_write.proofs.asks.Tie as tie
@@ -8,11 +6,19 @@ use Rattle.tc_write.proofs.asks.Tie as tie
 check-requires : tie.Need-check-requires
 check-requires c κs = search needs
 
-check-version-requires : tie.Need-check-version-requires
-check-version-requires c κs = search needs
+check-fields-in-requires : tie.Need-check-fields-in-requires
+check-fields-in-requires c κs = search needs
+
+check-version-in-requires : tie.Need-check-version-in-requires
+check-version-in-requires c κs = search needs
 
 returns : tie.Need-returns
-returns c = ap₂ (λ (f v : Passed). record { first = gives tt; fields = f; version = v }) (c .before .check .ensures) (c .check-version .ensures)
+returns c =
+    let p = c .before .before .check .ensures in
+    let q = c .before .check-fields-in .ensures in
+    let v = c .check-version-in .ensures in
+    λ i. record { first = p i; fields = q i; version = v i }
 
 pub asks-spec : {M : Type 1} → statement M
-asks-spec = tie.close (tie.spec check-requires check-version-requires returns)
+asks-spec =
+    tie.close (tie.spec check-requires check-fields-in-requires check-version-in-requires returns)

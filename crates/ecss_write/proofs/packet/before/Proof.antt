@@ -1,7 +1,7 @@
 -- `packet::before` meets its contract: the first refusal of three checks in their order, or what the last answers.
 use mathlib.Core.Path.{_∙_, ap, sym}
 use Rattle.space_packet.proofs.Answers.{gives-then, refuses-then}
-use Rattle.space_packet.specs.Answer.{checkAnswer, gives}
+use Rattle.space_packet.specs.Answer.{checkAnswer}
 use borrow.Author.Needs.{needs}
 use Rattle.ecss_write.proofs.packet.before.Statement.{statement}
 use Rattle.ecss_write.proofs.packet.before.Tie as tie

@@ -1,6 +1,7 @@
 -- `packet::check_reserve` meets its contract: the checks up to the room, the packet limit, then what is asked last.
 use mathlib.Core.Path.{sym, _∙_}
-use Rattle.ecss_write.proofs.Totals.{then-of, limit-first}
+use Rattle.space_packet.proofs.Answers.{then-of}
+use Rattle.ecss_write.proofs.Totals.{limit-first}
 use Rattle.ecss_write.proofs.Written.{reserve-by-room}
 use borrow.Author.Needs.{needs}
 use Rattle.ecss_write.proofs.packet.check_reserve.Statement.{statement}

@@ -1,6 +1,6 @@
 -- `packet::check_write` meets its contract: the checks up to the room, then what is asked last.
 use mathlib.Core.Path.{sym, _∙_}
-use Rattle.ecss_write.proofs.Totals.{then-of}
+use Rattle.space_packet.proofs.Answers.{then-of}
 use Rattle.ecss_write.proofs.Written.{write-by-room}
 use borrow.Author.Needs.{needs}
 use Rattle.ecss_write.proofs.packet.check_write.Statement.{statement}

@@ -3,7 +3,7 @@ use lib.ListN.{replicate}
 use Rattle.space_packet.specs.Header.{headerOctets}
 use mathlib.Core.Path.{_∙_, ap, sym, refl}
 use Rattle.space_packet.proofs.Answers.{gives-then, refuses-then}
-use Rattle.space_packet.specs.Answer.{checkAnswer, gives}
+use Rattle.space_packet.specs.Answer.{checkAnswer}
 use Rattle.ecss_write.specs.Write.{ownWith}
 use Rattle.ecss_write.proofs.Written.{head-asked, own-head, own-given}
 use borrow.Author.Needs.{needs}

@@ -13,9 +13,6 @@ abbrev μ-loop : tie.MeasureT-loop
 count-requires : tie.Need-count-requires Inv-loop μ-loop
 count-requires c κs = search needs
 
-builder-requires : tie.Need-builder-requires Inv-loop μ-loop
-builder-requires c κs = search needs
-
 unrefused-requires : tie.Need-unrefused-requires Inv-loop μ-loop
 unrefused-requires c κs = search needs
 
@@ -44,7 +41,6 @@ set-spec =
     Inv-loop
     μ-loop
     count-requires
-    builder-requires
     unrefused-requires
     loop-holds
     set-one-requires

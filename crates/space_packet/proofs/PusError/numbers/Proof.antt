@@ -85,6 +85,12 @@ enum-told-4 c = search needs
 in-numbers-requires-9 : tie.Need-in-numbers-requires-9
 in-numbers-requires-9 c κs = search needs
 
+enum-told-5 : tie.Need-enum-told-5
+enum-told-5 c = search needs
+
+in-numbers-requires-10 : tie.Need-in-numbers-requires-10
+in-numbers-requires-10 c κs = search needs
+
 returns : tie.Need-returns
 returns c = told (c .numbers .ensures) (c .before .before .self .given .1)
 
@@ -115,6 +121,9 @@ returns-9 c = told (c .in-numbers8 .ensures) (c .before .enum-told3 .given .1)
 returns-10 : tie.Need-returns-10
 returns-10 c = told (c .in-numbers9 .ensures) (c .before .enum-told4 .given .1)
 
+returns-11 : tie.Need-returns-11
+returns-11 c = told (c .in-numbers10 .ensures) (c .before .enum-told5 .given .1)
+
 pub numbers-spec : {M : Type 1} → statement M
 numbers-spec =
     tie.close
@@ -144,6 +153,8 @@ numbers-spec =
     in-numbers-requires-8
     enum-told-4
     in-numbers-requires-9
+    enum-told-5
+    in-numbers-requires-10
     returns
     returns-2
     returns-3
@@ -153,4 +164,5 @@ numbers-spec =
     returns-7
     returns-8
     returns-9
-    returns-10)
+    returns-10
+    returns-11)

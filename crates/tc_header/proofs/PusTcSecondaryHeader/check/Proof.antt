@@ -1,14 +1,13 @@
--- `PusTcSecondaryHeader::check` meets its contract: the flags, the room, then what the check of the version answers.
-use borrow.Author.Tests.{lt-ltb, le-ltb}
+-- `PusTcSecondaryHeader::check` meets its contract: the form, the fields, the room, then the version.
 use mathlib.Core.Path.{sym, ap, _∙_}
 use Rattle.space_packet.specs.Answer.{checkAnswer}
-use Rattle.space_packet.proofs.Answers.{gives-then, refuses-then, refuse-yes, refuse-no}
+use Rattle.tc_header.proofs.Checks.{no-room, has-room, checks-refused, checks-no-room, checks-version}
 use borrow.Author.Needs.{needs}
 use Rattle.tc_header.proofs.PusTcSecondaryHeader.check.Statement.{statement}
 use Rattle.tc_header.proofs.PusTcSecondaryHeader.check.Tie as tie
 
-check-requires : tie.Need-check-requires
-check-requires c κs = search needs
+check-widths-requires : tie.Need-check-widths-requires
+check-widths-requires c κs = search needs
 
 enum-told : tie.Need-enum-told
 enum-told c = search needs
@@ -17,25 +16,36 @@ enum-told-2 : tie.Need-enum-told-2
 enum-told-2 c = search needs
 
 returns : tie.Need-returns
-returns c = let k = ap checkAnswer (c .enum-told2 .given .1) in k ∙ sym (refuses-then _ _ _ (sym (c .before .before .check .ensures) ∙ k))
+returns c =
+    let k = ap checkAnswer (c .enum-told2 .given .1) in
+    k ∙ sym (checks-refused _ _ _ _ (sym (c .before .before .check-widths .ensures) ∙ k))
+
+sec-header-len-requires : tie.Need-sec-header-len-requires
+sec-header-len-requires c κs = search needs
 
 returns-2 : tie.Need-returns-2
-returns-2 c = let e = sym (c .before .before .before .check .ensures) ∙ ap checkAnswer (c .before .enum-told .given .1) in sym (gives-then _ _ _ e ∙ refuses-then _ _ _ (refuse-yes _ _ _ (lt-ltb _ _ (c .if1 .taken))))
+returns-2 c =
+    let e = sym (c .before .before .before .before .check-widths .ensures) ∙ ap checkAnswer (c .before .before .enum-told .given .1) in
+    sym (checks-no-room _ _ _ _ e (sym (no-room _ _ _ (c .before .sec-header-len .ensures) (c .if1 .taken))))
 
-check-version-requires : tie.Need-check-version-requires
-check-version-requires c κs = search needs
+check-version-in-requires : tie.Need-check-version-in-requires
+check-version-in-requires c κs = search needs
 
 returns-3 : tie.Need-returns-3
-returns-3 c = let e = sym (c .before .before .before .before .check .ensures) ∙ ap checkAnswer (c .before .before .enum-told .given .1) in c .check-version .ensures ∙ sym (gives-then _ _ _ e ∙ gives-then _ _ _ (refuse-no _ _ _ (le-ltb _ _ (c .before .if1 .left))))
+returns-3 c =
+    let e = sym (c .before .before .before .before .before .check-widths .ensures) ∙ ap checkAnswer (c .before .before .before .enum-told .given .1) in
+    let r = has-room _ _ _ (c .before .before .sec-header-len .ensures) (c .before .if1 .left) in
+    c .check-version-in .ensures ∙ sym (checks-version _ _ _ _ e r)
 
 pub check-spec : {M : Type 1} → statement M
 check-spec =
     tie.close
     (tie.spec
-    check-requires
+    check-widths-requires
     enum-told
     enum-told-2
     returns
+    sec-header-len-requires
     returns-2
-    check-version-requires
+    check-version-in-requires
     returns-3)

@@ -1,6 +1,7 @@
 -- `PusTcBuilder::with_source_id` meets its contract: the creator's own edit, in the builder that holds it.
-use mathlib.Core.Path.{ap}
+use mathlib.Core.Path.{_∙_}
 use Rattle.tc_write.specs.Builder.{builderOf}
+use Rattle.tc_write.proofs.Made.{edit-in}
 use borrow.Author.Needs.{needs}
 use Rattle.tc_write.proofs.PusTcBuilder.with_source_id.Statement.{statement}
 use Rattle.tc_write.proofs.PusTcBuilder.with_source_id.Tie as tie
@@ -8,8 +9,11 @@ use Rattle.tc_write.proofs.PusTcBuilder.with_source_id.Tie as tie
 set-source-id-requires : tie.Need-set-source-id-requires
 set-source-id-requires c κs = search needs
 
+builder-set-requires : tie.Need-builder-set-requires
+builder-set-requires c κs = search needs
+
 returns : tie.Need-returns
-returns c = ap builderOf (c .set-source-id .ensures)
+returns c = c .builder-set .ensures ∙ edit-in builderOf _ _ _ _ (c .before .set-source-id .ensures)
 
 pub with-source-id-spec : {M : Type 1} → statement M
-with-source-id-spec = tie.close (tie.spec set-source-id-requires returns)
+with-source-id-spec = tie.close (tie.spec set-source-id-requires builder-set-requires returns)

@@ -2,38 +2,55 @@
 use mathlib.Core.Path.{refl, _∙_}
 use native.Mathlib.Omega.{arith}
 use lib.ListN.{replicate}
-use Rattle.tc_write.specs.Command.{commandC}
-use Rattle.tc_write.proofs.Command.{hands}
 use Rattle.ecss_write.proofs.Calls.{own}
+use Rattle.tc_write.specs.Command.{commandIn}
+use Rattle.tc_write.proofs.Command.{hands}
 use borrow.Author.Needs.{needs}
 use Rattle.tc_write.proofs.PusTcCreator.calc_own_crc16.Statement.{statement}
 use Rattle.tc_write.proofs.PusTcCreator.calc_own_crc16.Tie as tie
 
-slice-aggregate-write-to-slice : tie.Need-slice-aggregate-write-to-slice
-slice-aggregate-write-to-slice c = search needs
+slice-aggregate-write-to-slice-in : tie.Need-slice-aggregate-write-to-slice-in
+slice-aggregate-write-to-slice-in c = search needs
 
-write-to-slice-requires : tie.Need-write-to-slice-requires
-write-to-slice-requires c κs = search needs
+write-to-slice-in-requires : tie.Need-write-to-slice-in-requires
+write-to-slice-in-requires c κs = search needs
+
+slice-aggregate-front : tie.Need-slice-aggregate-front
+slice-aggregate-front c = search needs
+
+sec-header-len-requires : tie.Need-sec-header-len-requires
+sec-header-len-requires c κs = search needs
+
+front-requires : tie.Need-front-requires
+front-requires c κs = search needs
 
 asks-requires : tie.Need-asks-requires
 asks-requires c κs = search needs
-
-slice-aggregate-own-checksum : tie.Need-slice-aggregate-own-checksum
-slice-aggregate-own-checksum c = search needs
 
 own-checksum-requires : tie.Need-own-checksum-requires
 own-checksum-requires c κs = search needs
 
 returns : tie.Need-returns
-returns c = let a = c .before .before .before .before .before .before .before .before .args in c .own-checksum .ensures ∙ own commandC (a .self .«sp_header») (a .self .«sec_header») (c .before .before .asks .result) _ (hands (a .self .«sec_header») (c .before .before .asks .result) (replicate 5 0) _ (c .before .before .asks .ensures) refl (omega arith) (c .before .before .before .before .write-to-slice .ensures .left)) (a .app-data .now)
+returns c =
+    let k = c .before in
+    let f = k .before in
+    let a = f .before .before .before .before .before .before .before .before .before .args in
+    let t = a .self in
+    let w = f .before .before .before .before .write-to-slice-in .ensures .left in
+    c .own-checksum .ensures ∙ own (commandIn (t .form)) (t .«sp_header») (t .«sec_header») (k .asks .result) _
+    (hands (t .form) (t .«sec_header») (replicate 5 0) _ _ _ refl (omega arith) w
+    (f .before .sec-header-len .ensures) (f .front .ensures) (k .asks .result) (k .asks .ensures))
+    (a .app-data .now)
 
 pub calc-own-crc16-spec : {M : Type 1} → statement M
 calc-own-crc16-spec =
     tie.close
     (tie.spec
-    slice-aggregate-write-to-slice
-    write-to-slice-requires
+    slice-aggregate-write-to-slice-in
+    write-to-slice-in-requires
+    slice-aggregate-front
+    sec-header-len-requires
+    front-requires
     asks-requires
-    slice-aggregate-own-checksum
     own-checksum-requires
     returns)

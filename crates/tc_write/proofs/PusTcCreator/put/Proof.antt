@@ -9,7 +9,7 @@ use Rattle.space_packet.specs.Bits.{pick}
 use Rattle.space_packet.specs.Wrote.{Wrote}
 use Rattle.space_packet.specs.declared.SizeResult.{SizeResult}
 use Rattle.ecss_write.proofs.Calls.{wrote, wrote-bare}
-use Rattle.tc_write.specs.Command.{commandC}
+use Rattle.tc_write.specs.Command.{commandIn}
 use Rattle.tc_write.specs.Creator.{bareOf, writeOf, contentFor, octetsFor}
 use Rattle.tc_write.specs.declared.PusTcCreator.{PusTcCreator}
 use Rattle.tc_write.proofs.Command.{hands}
@@ -23,17 +23,23 @@ chosen : (b c : Bool) (t : PusTcCreator) (d l m : List ℕ) (r : SizeResult) →
     → Wrote (pick b bareOf writeOf t (length d) (length l)) (pick b contentFor octetsFor t d) l r m
 chosen b c t d l m r e = subst (λ (x : Bool). Wrote (pick x bareOf writeOf t (length d) (length l)) (pick x contentFor octetsFor t d) l r m) (sym e)
 
-slice-aggregate-write-to-slice : tie.Need-slice-aggregate-write-to-slice
-slice-aggregate-write-to-slice c = search needs
+slice-aggregate-write-to-slice-in : tie.Need-slice-aggregate-write-to-slice-in
+slice-aggregate-write-to-slice-in c = search needs
 
-write-to-slice-requires : tie.Need-write-to-slice-requires
-write-to-slice-requires c κs = search needs
+write-to-slice-in-requires : tie.Need-write-to-slice-in-requires
+write-to-slice-in-requires c κs = search needs
+
+slice-aggregate-front : tie.Need-slice-aggregate-front
+slice-aggregate-front c = search needs
+
+sec-header-len-requires : tie.Need-sec-header-len-requires
+sec-header-len-requires c κs = search needs
+
+front-requires : tie.Need-front-requires
+front-requires c κs = search needs
 
 asks-requires : tie.Need-asks-requires
 asks-requires c κs = search needs
-
-slice-aggregate-write-bare : tie.Need-slice-aggregate-write-bare
-slice-aggregate-write-bare c = search needs
 
 write-bare-requires : tie.Need-write-bare-requires
 write-bare-requires c κs = search needs
@@ -43,15 +49,19 @@ same-length c = search needs
 
 returns : tie.Need-returns
 returns c =
-    let k = c .before .before .before .before .before .before in
-    let a = k .before .before .before .before .before .before .before .before .args in
-    chosen _ true (a .self) (a .app-data .now) (a .buf .now) _ _ (c .before .before .before .before .before .if1 .taken)
-    (wrote-bare commandC (a .self .«sp_header») (a .self .«sec_header») (k .asks .result) _
-    (hands (a .self .«sec_header») (k .asks .result) (replicate 5 0) _ (k .asks .ensures) refl (omega arith) (k .before .before .write-to-slice .ensures .left))
-    (a .self .«has_checksum») (a .app-data .now) (a .buf .now) _ _ (c .before .before .write-bare .ensures))
+    let k = c .before .before .before .before in
+    let f = k .before .before in
+    let a = f .before .before .before .before .before .before .before .before .before .before .before .args in
+    let t = a .self in
+    let w = f .before .before .before .before .write-to-slice-in .ensures .left in
+    chosen _ true t (a .app-data .now) (a .buf .now) _ _ (k .before .if1 .taken)
+    (wrote-bare (commandIn (t .form)) (t .«sp_header») (t .«sec_header») (k .asks .result) _
+    (hands (t .form) (t .«sec_header») (replicate 5 0) _ _ _ refl (omega arith) w
+    (f .before .sec-header-len .ensures) (f .front .ensures) (k .asks .result) (k .asks .ensures))
+    (t .«has_checksum») (a .app-data .now) (a .buf .now) _ _ (c .before .before .write-bare .ensures))
 
-slice-aggregate-write : tie.Need-slice-aggregate-write
-slice-aggregate-write c = search needs
+asks-requires-2 : tie.Need-asks-requires-2
+asks-requires-2 c κs = search needs
 
 write-requires : tie.Need-write-requires
 write-requires c κs = search needs
@@ -61,25 +71,31 @@ same-length-2 c = search needs
 
 returns-2 : tie.Need-returns-2
 returns-2 c =
-    let k = c .before .before .before .before .before .before in
-    let a = k .before .before .before .before .before .before .before .before .args in
-    chosen _ false (a .self) (a .app-data .now) (a .buf .now) _ _ (c .before .before .before .before .before .if1 .left)
-    (wrote commandC (a .self .«sp_header») (a .self .«sec_header») (k .asks .result) _
-    (hands (a .self .«sec_header») (k .asks .result) (replicate 5 0) _ (k .asks .ensures) refl (omega arith) (k .before .before .write-to-slice .ensures .left))
-    (a .self .«has_checksum») (a .app-data .now) (a .buf .now) _ _ (c .before .before .write .ensures))
+    let k = c .before .before .before .before in
+    let f = k .before .before in
+    let a = f .before .before .before .before .before .before .before .before .before .before .before .args in
+    let t = a .self in
+    let w = f .before .before .before .before .write-to-slice-in .ensures .left in
+    chosen _ false t (a .app-data .now) (a .buf .now) _ _ (k .before .if1 .left)
+    (wrote (commandIn (t .form)) (t .«sp_header») (t .«sec_header») (k .asks2 .result) _
+    (hands (t .form) (t .«sec_header») (replicate 5 0) _ _ _ refl (omega arith) w
+    (f .before .sec-header-len .ensures) (f .front .ensures) (k .asks2 .result) (k .asks2 .ensures))
+    (t .«has_checksum») (a .app-data .now) (a .buf .now) _ _ (c .before .before .write .ensures))
 
 pub put-spec : {M : Type 1} → statement M
 put-spec =
     tie.close
     (tie.spec
-    slice-aggregate-write-to-slice
-    write-to-slice-requires
+    slice-aggregate-write-to-slice-in
+    write-to-slice-in-requires
+    slice-aggregate-front
+    sec-header-len-requires
+    front-requires
     asks-requires
-    slice-aggregate-write-bare
     write-bare-requires
     same-length
     returns
-    slice-aggregate-write
+    asks-requires-2
     write-requires
     same-length-2
     returns-2)

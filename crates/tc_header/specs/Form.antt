@@ -1,0 +1,61 @@
+-- The form of a telecommand: its edition, and the width of its source ID in bits. From it follow the version number, the octets of
+-- the source ID, the size of the secondary header, and where the data starts.
+use Prim.Native.Nat.{ℕ, zero, suc, _-_, _/_, _≤_}
+use mathlib.Core.Bool.{Bool, not, _&&_, _||_}
+use mathlib.Core.List.{List, []}
+use lib.ListN.{getD, drop}
+use lib.Dec.{eqb}
+use Rattle.space_packet.specs.Bits.{be16, word}
+use Rattle.space_packet.specs.Answer.{Passed, refusal, gives, refuseIf, inRange}
+use Rattle.ecss.specs.Version.{versionNumber}
+use Rattle.ecss.specs.declared.PusVersion.the-variants.{PusA, PusC}
+use Rattle.tc_header.specs.declared.TcForm.{TcForm}
+
+-- ECSS-E-ST-70-41C, 7.4.4, telecommand packet secondary header: version 2, a source ID of 16 bits
+abbrev pub formC : TcForm
+formC = record { version = PusC; «source_width» = 16 }
+
+-- ECSS-E-70-41A, the data field header of telecommand packets: version 1, a source ID of as many bits as the mission fixes, no spare
+abbrev pub formA : ℕ → TcForm
+formA width = record { version = PusA; «source_width» = width }
+
+abbrev pub isWidth : ℕ → Bool
+isWidth w = eqb w 16 || (eqb w 8 || eqb w 0)
+
+-- another width is refused with 32, before all others; the code makes no form but `formC` and `formA`, and what is said of forms holds
+-- of every version with one of these widths
+unfoldable pub formCheck : TcForm → Passed
+formCheck f = refuseIf (not (isWidth (f .«source_width»))) (refusal 32 []) (gives tt)
+
+-- the octets of the source ID
+abbrev pub sourceLen : TcForm → ℕ
+sourceLen f = f .«source_width» / 8
+
+-- the same edition and width
+unfoldable pub sameForm : TcForm → TcForm → Bool
+sameForm f g =
+    eqb (versionNumber (f .version)) (versionNumber (g .version)) && eqb (f .«source_width») (g .«source_width»)
+
+-- ---- a source ID of n octets
+
+-- the low n octets of sixteen bits
+abbrev pub sourceOctets : ℕ → ℕ → List ℕ
+sourceOctets n v = drop (2 - n) (be16 v)
+
+-- what stands at octet 3 of the secondary header; no octet reads as source 0
+abbrev pub sourceAt : ℕ → List ℕ → ℕ
+sourceAt zero l = 0
+sourceAt (suc zero) l = getD l 3 0
+sourceAt (suc (suc n)) l = word l 3
+
+-- within its width; sixteen bits hold every value of the record's field
+abbrev pub SourceFits : ℕ → ℕ → Type 0
+SourceFits zero v = v ≤ 0
+SourceFits (suc zero) v = v ≤ 255
+SourceFits (suc (suc n)) v = Unit {0}
+
+-- over its width it is refused; its place in a refusal is 5
+abbrev pub sourceCheck : ℕ → ℕ → Passed
+sourceCheck zero v = inRange 5 0 v
+sourceCheck (suc zero) v = inRange 5 255 v
+sourceCheck (suc (suc n)) v = gives tt

@@ -1,0 +1,33 @@
+-- `PusTcBuilder::defaults` meets its contract: the default header as a telecommand's, and the simple header of message type 0, 0.
+use mathlib.Core.Path.{_∙_, ap, ap₂}
+use Rattle.space_packet.specs.declared.PacketType.the-variants.{Tc}
+use Rattle.ecss_write.specs.Write.{asType}
+use Rattle.tc_header.specs.Header.{ackOf, secFrom}
+use Rattle.tc_write.specs.Creator.{creatorIn}
+use Rattle.tc_write.specs.Builder.{builderOf, defaultBuilder}
+use borrow.Author.Needs.{needs}
+use Rattle.tc_write.proofs.PusTcBuilder.defaults.Statement.{statement}
+use Rattle.tc_write.proofs.PusTcBuilder.defaults.Tie as tie
+
+default-requires : tie.Need-default-requires
+default-requires c κs = search needs
+
+as-type-requires : tie.Need-as-type-requires
+as-type-requires c κs = search needs
+
+new-requires : tie.Need-new-requires
+new-requires c κs = search needs
+
+simple-requires : tie.Need-simple-requires
+simple-requires c κs = search needs
+
+returns : tie.Need-returns
+returns c =
+    let f = c .before .before .before .before .args .form in
+    ap₂ (λ h x. builderOf (creatorIn f h x (defaultBuilder .0 .«has_checksum»)))
+    (c .before .before .as-type .ensures ∙ ap (asType Tc) (c .before .before .before .default .ensures))
+    (c .simple .ensures ∙ ap (λ m. secFrom m (ackOf 15) 0 (f .version)) (c .before .new .ensures))
+
+pub defaults-spec : {M : Type 1} → statement M
+defaults-spec =
+    tie.close (tie.spec default-requires as-type-requires new-requires simple-requires returns)
