@@ -220,19 +220,27 @@ static int agree_prepared(const struct section *s, usize n) {
 }
 
 // Also on a packet with any one bit turned, and with one of its first seven octets turned under a checksum that fits.
+static void seal(usize n) {
+    usize crc = crate_table(octets, n - 2);
+    octets[n - 2] = (u8)(crc >> 8);
+    octets[n - 1] = (u8)crc;
+}
+
 static int agree_turned(const struct section *s, usize n) {
     for (usize k = 0; k < 8 * n; k++) {
         s->prepare(n);
         octets[k / 8] ^= (u8)(1 << k % 8);
         if (!agree(s, n))
             return 0;
-        usize crc = crate_table(octets, n - 2);
-        octets[n - 2] = (u8)(crc >> 8);
-        octets[n - 1] = (u8)crc;
+        seal(n);
         if (k < 56 && !agree(s, n))
             return 0;
     }
-    return 1;
+    s->prepare(n);
+    octets[0] |= 7;
+    octets[1] = 0xFF;
+    seal(n);
+    return agree(s, n);
 }
 
 static int all_agree(void) {

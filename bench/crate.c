@@ -82,7 +82,7 @@ static inline int read_by(call *checksum, const u8 *s, usize n, struct record *r
 
 // The strict checks behind the reader's.
 static inline int judge_by(call *checksum, const u8 *s, usize n, struct record *r) {
-    return read_by(checksum, s, n, r) && r->version == 0 && r->type == 1 && r->has_second && s[6] >> 4 == 2;
+    return read_by(checksum, s, n, r) && r->version == 0 && r->type == 1 && r->has_second && s[6] >> 4 == 2 && r->apid != 0x7FF;
 }
 
 // What was read, each field of it.

@@ -54,6 +54,7 @@ REFUSED = {
     "telemetry": packet(first=0x09),
     "no_secondary_header": packet(first=0x11),
     "version_1": packet(octet_6=0x1F),
+    "idle_apid": packet(first=0x1F, apid=0xFF),
 }
 
 
@@ -69,8 +70,10 @@ def captures():
     for name, refused in REFUSED.items():
         yield name, refused + P5 + refused
     yield "every_refusal", b"".join(refused + P5 for refused in REFUSED.values()) + b"".join(REFUSED.values()) + P5 * 2
-    yield "two_faults", packet(first=0x29, octet_6=0x1F) + packet(first=0x01, octet_6=0x0F)
-    yield "idle_apid", packet(first=0x1F, apid=0xFF)
+    yield "two_faults", packet(first=0x29, octet_6=0x1F) + packet(first=0x01, octet_6=0x0F) + packet(
+        first=0x1F, apid=0xFF, octet_6=0x1F
+    )
+    yield "last_apid", packet(first=0x1F, apid=0xFE)
     yield "every_subtype", b"".join(packet(service=255 - n, subtype=n) for n in range(256))
     yield "every_acknowledgement", b"".join(packet(octet_6=0x20 + n) for n in range(16))
     yield "sequence_control", b"".join(

@@ -299,12 +299,13 @@ WAYS = {'new': 'compared', 'nt': 'compared', 'noverify': 'taken', 'nocrc': 'none
 
 
 def strict(octets, form=PUS_C):
-    """All reader checks with the checksum, then 9, 10, 11, 3. The whole nibble counts, so PUS A refuses 9 as well."""
+    """All reader checks with the checksum, then 9, 10, 11, 3, 12. The whole nibble counts, so PUS A refuses 9 as well."""
     reader = Reader(octets, 'compared', form)
     refuse_if(reader.sp.pvn != 0, 9, reader.sp.pvn)
     refuse_if(reader.sp.type == 0, 10)
     refuse_if(reader.sp.shf == 0, 11)
     refuse_if(octets[6] >> 4 != form.version, 3, octets[6] >> 4)
+    refuse_if(reader.sp.apid == 0b11111111111, 12)        # idle packets are no commands
     return reader
 
 

@@ -231,13 +231,13 @@ def comparisons(rng):
 
 def strict_requests(rng):
     faults = {                                            # each makes a packet's first octets wrong in one way
-        'short': None, 'checksum': None, 'pvn': (0, 0x20), 'type': (0, 0x10), 'flag': (0, 0x08), 'nibble': (6, 0x10)}
+        'short': {}, 'checksum': {}, 'pvn': {0: 0x20}, 'type': {0: 0x10}, 'flag': {0: 0x08}, 'nibble': {6: 0x10},
+        'idle': {0: 0x06, 1: 0xDC}}
 
     def packet_with(chosen, data):
         body = bytearray(tc(data)[:-2])
         for fault in chosen:
-            if faults[fault]:
-                at, bits = faults[fault]
+            for at, bits in faults[fault].items():
                 body[at] ^= bits
         octets = bytearray(sealed(bytes(body)))
         if 'checksum' in chosen:
@@ -255,6 +255,8 @@ def strict_requests(rng):
         yield f'strict {text(sealed(bytes.fromhex("1923C0050006") + bytes([nibble << 4]) + bytes(4)))}'
     for length, field in itertools.product(range(15), range(9)):
         yield f'strict {text((bytes.fromhex("1923C005") + be16(field) + bytes(9))[:length])}'
+    for apid, way in itertools.product((0, 1, 1023, 2045, 2046, 2047), ('strict', *(f'read {mode}' for mode in MODES))):
+        yield f'{way} {text(tc(b"", (0, 1, 1, apid, 3, 5, 0)))}'
     for _ in range(20):                                   # what the verdict does not judge
         sp = [0, 1, 1, *(rng.randint(0, top) for top in SP_WIDTHS[3:])]
         sec = [2, *(rng.randint(0, top) for top in SEC_WIDTHS[1:])]
@@ -337,10 +339,10 @@ def pus_a_requests(rng):
     yield f'strict {text(a_packet(pus_a(16)))}'           # PUS C refuses version 1 as before
 
 
-def a_packet(form, nibble=1, data=b'', source=0, first=0x19):
+def a_packet(form, nibble=1, data=b'', source=0, first=0x19, second_octet=0x23):
     """A ping of PUS A with its right checksum, whatever its nibble is."""
     second = bytes([nibble << 4 | 15, 17, 1]) + source.to_bytes(form.source_octets, 'big')
-    return sealed(bytes([first]) + bytes.fromhex('23C005') + be16(form.start + len(data) - 5) + second + data)
+    return sealed(bytes([first, second_octet]) + bytes.fromhex('C005') + be16(form.start + len(data) - 5) + second + data)
 
 
 def a_sources(form):
@@ -363,6 +365,9 @@ def a_readings(rng, form):
         yield f'strict {text(a_packet(form, data=rng.randbytes(3), source=source))}'
     for first in 0x39, 0x09, 0x11:                        # packet version number, type and flag stand before the nibble
         yield f'strict {text(a_packet(form, 2, first=first))}'
+    for low, nibble in itertools.product((0xFE, 0xFF), (1, 2)):       # APID 2,046 and 2,047, of this version and of another
+        packet = text(a_packet(form, nibble, first=0x1F, second_octet=low))
+        yield from (f'{way} {packet}' for way in ('strict', 'read new'))
     # Lengths around the least totals: the octets that there are, and the total that the field states.
     for length, stated in (-1, 2), (0, 2), (0, -1), (0, 0), (1, 1):
         packet = bytes.fromhex('1923C005') + be16(form.start + stated - 7) + bytes.fromhex('1F1101000000')

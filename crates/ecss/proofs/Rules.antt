@@ -1,18 +1,18 @@
 -- What it says that the strict checks pass, and when they do: for every kind.
 use Prim.Native.Nat.{ℕ, _/_}
 use mathlib.Core.Path.{_≡_, refl, ap, _∙_}
-use mathlib.Core.Bool.{not}
-use mathlib.Core.List.{List}
+use mathlib.Core.Bool.{true, not}
+use mathlib.Core.List.{List, []}
 use native.Mathlib.Omega.{arith}
 use lib.ListN.{getD}
 use borrow.Author.Tests.{eq-eqb, eqb-true, not-false}
-use Rattle.space_packet.specs.Answer.{Numbers, gives}
-use Rattle.space_packet.specs.Fields.{typeNumber}
+use Rattle.space_packet.specs.Answer.{Numbers, gives, refuses, refusal, refuseIf}
+use Rattle.space_packet.specs.Fields.{typeNumber, isIdle}
 use Rattle.space_packet.specs.declared.SpacePacketHeader.{SpacePacketHeader}
 use Rattle.space_packet.specs.declared.PacketType.{PacketType}
 use Rattle.space_packet.specs.declared.PacketType.the-variants.{Tm, Tc}
-use Rattle.space_packet.proofs.Answers.{refuse-no, refuse-gives, then-gives, gives-then}
-use Rattle.ecss.specs.Kind.{Kind, Primary, pusRule, strictRule}
+use Rattle.space_packet.proofs.Answers.{refuse-no, refuse-yes, refuse-gives, then-gives, gives-then, refuses-then}
+use Rattle.ecss.specs.Kind.{Kind, Primary, idleHeader, pusRule, strictRule}
 
 type-inj : (t u : PacketType) → typeNumber t ≡ typeNumber u → t ≡ u
 type-inj Tm Tm e = refl
@@ -27,23 +27,41 @@ module _ (type : PacketType) (other : Numbers) (version : ℕ) (h : SpacePacketH
       let a = refuse-gives _ _ _ tt p in
       let b = refuse-gives _ _ _ tt (a .1) in
       let c = refuse-gives _ _ _ tt (b .1) in
-      let d = refuse-gives _ _ _ tt (c .1) in (
-        record { version-zero = eqb-true _ 0 (not-false _ (a .0)); type-is = type-inj _ type (eqb-true _ _ (not-false _ (b .0))); has-secondary = not-false _ (c .0) },
+      let d = refuse-gives _ _ _ tt (c .1) in
+      let e = refuse-gives _ _ _ tt (d .1) in (
+        record {
+          version-zero = eqb-true _ 0 (not-false _ (a .0));
+          type-is = type-inj _ type (eqb-true _ _ (not-false _ (b .0)));
+          has-secondary = not-false _ (c .0);
+          not-idle = e .0;
+        },
         eqb-true _ version (not-false _ (d .0)),
       )
 
-  primary-rule : Primary type h → octet / 16 ≡ version → pusRule type other version h octet ≡ gives tt
+  -- the APID is asked for last of what every kind shares
+  apid-last : h .version ≡ 0 → h .«packet_id» .«packet_type» ≡ type → h .«packet_id» .«sec_header_flag» ≡ true → octet / 16 ≡ version
+      → pusRule type other version h octet ≡ refuseIf (isIdle (h .«packet_id» .apid)) (refusal 12 []) (gives tt)
   unfolding pusRule
-  primary-rule k e =
-      refuse-no _ _ _ (ap not (eq-eqb (h .version) 0 (k .version-zero)))
-      ∙ refuse-no _ _ _ (ap not (eq-eqb _ _ (ap typeNumber (k .type-is))))
-      ∙ refuse-no _ _ _ (ap not (k .has-secondary))
+  apid-last v t f e =
+      refuse-no _ _ _ (ap not (eq-eqb (h .version) 0 v))
+      ∙ refuse-no _ _ _ (ap not (eq-eqb _ _ (ap typeNumber t)))
+      ∙ refuse-no _ _ _ (ap not f)
       ∙ refuse-no _ _ _ (ap not (eq-eqb (octet / 16) version e))
+
+  primary-rule : Primary type h → octet / 16 ≡ version → pusRule type other version h octet ≡ gives tt
+  primary-rule k e = apid-last (k .version-zero) (k .type-is) (k .has-secondary) e ∙ refuse-no _ _ _ (k .not-idle)
 
 module _ {H : Type 0} (k : Kind H) (h : SpacePacketHeader) (l : List ℕ) where
   pub strict-passes : Primary (k .type) h → getD l 0 0 / 16 ≡ k .version → k .rule l ≡ gives tt → strictRule k h l ≡ gives tt
   unfolding strictRule
   strict-passes p v r = gives-then _ _ tt (primary-rule (k .type) (k .other) (k .version) h (getD l 0 0) p v) ∙ r
+
+  -- a header that they pass is refused with 12, and with nothing else, once it has the APID of idle packets
+  pub strict-idle : Primary (k .type) h → getD l 0 0 / 16 ≡ k .version → strictRule k (idleHeader h) l ≡ refuses (refusal 12 [])
+  unfolding strictRule
+  strict-idle p v =
+      refuses-then _ _ _
+      (apid-last (k .type) (k .other) (k .version) (idleHeader h) (getD l 0 0) (p .version-zero) (p .type-is) (p .has-secondary) v ∙ refuse-yes _ _ _ refl)
 
   pub strict-says : strictRule k h l ≡ gives tt → Primary (k .type) h × (getD l 0 0 / 16 ≡ k .version) × (k .rule l ≡ gives tt)
   unfolding strictRule

@@ -2,13 +2,13 @@
 -- verdict are said over it.
 use Prim.Native.Nat.{ℕ, _+_, _-_, _/_, _≤_}
 use mathlib.Core.Path.{_≡_}
-use mathlib.Core.Bool.{Bool, true, not}
+use mathlib.Core.Bool.{Bool, true, false, not}
 use mathlib.Core.List.{List, [], _∷_, _++_}
 use lib.ListN.{length, getD, take, drop}
 use lib.Dec.{eqb}
 use Rattle.space_packet.specs.Answer.{Numbers, Answer, Passed, refusal, gives, refuseIf, _then_}
-use Rattle.space_packet.specs.Fields.{typeNumber}
-use Rattle.space_packet.specs.Header.{headerOctets, readHeader, packetLen, InRange}
+use Rattle.space_packet.specs.Fields.{typeNumber, idleApid, isIdle, idWithApid}
+use Rattle.space_packet.specs.Header.{headerOctets, readHeader, packetLen, InRange, withId}
 use Rattle.space_packet.specs.declared.SpacePacketHeader.{SpacePacketHeader}
 use Rattle.space_packet.specs.declared.PacketType.{PacketType}
 use Rattle.ecss.specs.Frame.{Octets, trailer, sealed, maxTotal, checkedOf}
@@ -16,20 +16,22 @@ use Rattle.ecss.specs.Frame.{Octets, trailer, sealed, maxTotal, checkedO
 -- ---- the strict checks that every kind shares
 
 -- CCSDS 133.0-B-2, 4.1.3.2 and 4.1.3.3: packet version number 0, the kind's type, a secondary header; ECSS-E-ST-70-41C, 7.4.3
--- and 7.4.4: the PUS version in the higher half of octet 6, which in ECSS-E-70-41A is a zero bit and a version of three. Another
--- type is refused with the number `other`.
+-- and 7.4.4: the PUS version in the higher half of octet 6, which in ECSS-E-70-41A is a zero bit and a version of three; and
+-- CCSDS 133.0-B-2, 4.1.3.3.4: no idle packet. Another type is refused with the number `other`.
 unfoldable pub pusRule : PacketType → Numbers → ℕ → SpacePacketHeader → ℕ → Passed
 pusRule type other version h octet =
     refuseIf (not (eqb (h .version) 0)) (refusal 9 (h .version ∷ []))
     (refuseIf (not (eqb (typeNumber (h .«packet_id» .«packet_type»)) (typeNumber type))) other
     (refuseIf (not (h .«packet_id» .«sec_header_flag»)) (refusal 11 [])
-    (refuseIf (not (eqb (octet / 16) version)) (refusal 3 (octet / 16 ∷ [])) (gives tt))))
+    (refuseIf (not (eqb (octet / 16) version)) (refusal 3 (octet / 16 ∷ []))
+    (refuseIf (isIdle (h .«packet_id» .apid)) (refusal 12 []) (gives tt)))))
 
 -- what they ask of the primary header
 pub record Primary (type : PacketType) (h : SpacePacketHeader) : Type 0 where
   pub version-zero : h .version ≡ 0
   pub type-is : h .«packet_id» .«packet_type» ≡ type
   pub has-secondary : h .«packet_id» .«sec_header_flag» ≡ true
+  pub not-idle : isIdle (h .«packet_id» .apid) ≡ false
 
 -- ---- kinds
 
@@ -94,6 +96,13 @@ pub record Rules {H : Type 0} (k : Kind H) (p : Packet H) : Type 0 where
   pub stated : Stated k true p
   pub at-most : startOf k + length (p .user) + 2 ≤ maxTotal
   pub primary : Primary (k .type) (p .primary)
+
+-- a header, and a packet, with the APID of idle packets in place of its own
+abbrev pub idleHeader : SpacePacketHeader → SpacePacketHeader
+idleHeader h = withId h (idWithApid (h .«packet_id») idleApid)
+
+abbrev pub asIdle : {H : Type 0} → Packet H → Packet H
+asIdle p = record { primary = idleHeader (p .primary); secondary = p .secondary; user = p .user }
 
 -- the octets s begin with the packet p under these rules: both headers, the data, and the checksum over all of them
 pub record BeginsWith {H : Type 0} (k : Kind H) (s : List ℕ) (p : Packet H) : Type 0 where

@@ -149,5 +149,9 @@ pub fn pus_rule(
     if nibble != version {
         return CheckResult::Err(PusError::VersionNotSupported(nibble));
     }
+    let apid = h.apid();
+    if apid.is_idle() {
+        return CheckResult::Err(PusError::IdleApid);
+    }
     CheckResult::Ok
 }

@@ -2,10 +2,11 @@
 -- reserving. The data d, or their number n, travel beside the headers h and x; b says whether there is a checksum.
 use Prim.Native.Nat.{ℕ, _+_, _-_, _≤_}
 use mathlib.Core.Path.{_≡_}
-use mathlib.Core.Bool.{Bool}
+use mathlib.Core.Bool.{Bool, false}
 use mathlib.Core.List.{List, []}
 use lib.ListN.{length}
 use Rattle.space_packet.specs.Answer.{Answer, Passed, Kept, gives}
+use Rattle.space_packet.specs.Fields.{isIdle}
 use Rattle.space_packet.specs.Header.{InRange}
 use Rattle.space_packet.specs.declared.SpacePacketHeader.{SpacePacketHeader}
 use Rattle.ecss.specs.Frame.{closed, maxTotal}
@@ -88,9 +89,10 @@ module _ {H : Type 0} (w : Writer H) where
   abbrev pub headedBy : Answer ℕ → List ℕ → List ℕ → List ℕ
   headedBy = headedAt startBy
 
--- headers and data as they are handed to construction or to a reservation, which set the rest
+-- headers and data of which construction or a reservation, which set the rest, make a packet under the written rules
 pub record Handed {H : Type 0} (k : Kind H) (p : Packet H) : Type 0 where
   pub in-range : InRange (p .primary)
   pub version-zero : p .primary .version ≡ 0
+  pub not-idle : isIdle (p .primary .«packet_id» .apid) ≡ false
   pub fits : k .Fits (p .secondary)
   pub at-most : startOf k + length (p .user) + 2 ≤ maxTotal

@@ -3,20 +3,20 @@ use Prim.Native.Nat.{ℕ, _+_, _-_}
 use mathlib.Core.Path.{_≡_, refl, sym, ap, ap₂, _∙_, subst}
 use mathlib.Core.Logic.{_↔_}
 use mathlib.Core.Bool.{true}
-use mathlib.Core.List.{List, _++_}
+use mathlib.Core.List.{List, [], _++_}
 use native.Mathlib.Omega.{arith}
 use lib.ListN.{length, take, drop, length-append, length-drop, take-append-drop}
 use lib.Seq.{take-at, drop-at, length-take-le}
-use Rattle.space_packet.specs.Header.{readHeader}
-use Rattle.space_packet.specs.Answer.{gives}
-use Rattle.space_packet.proofs.Answers.{gives-inj, then-gives, gives-then}
+use Rattle.space_packet.specs.Header.{readHeader, InRange}
+use Rattle.space_packet.specs.Answer.{gives, refuses, refusal, _then_}
+use Rattle.space_packet.proofs.Answers.{gives-inj, then-gives, gives-then, refuses-then}
 use Rattle.space_packet.proofs.RoundTrip.{read-in-range, stated-total}
 use Rattle.crc_register.specs.Crc.{crcOf}
 use Rattle.ecss.specs.Frame.{Octets, statedOf, frameOf, checkedOf}
-use Rattle.ecss.specs.Kind.{Kind, KindLaws, Taken, Packet, BeginsWith, startOf, contentOf, packetOf, secondaryOf, strictRule, readAs, ruled, judge}
+use Rattle.ecss.specs.Kind.{Kind, KindLaws, Taken, Packet, Stated, Rules, BeginsWith, idleHeader, asIdle, startOf, contentOf, packetOf, secondaryOf, strictRule, readAs, ruled, judge}
 use Rattle.ecss.proofs.Frames.{FrameIs, total-frame, checked-total, total-checked}
 use Rattle.ecss.proofs.Sealed.{sealed-verifies}
-use Rattle.ecss.proofs.Rules.{strict-passes, strict-says}
+use Rattle.ecss.proofs.Rules.{strict-passes, strict-idle, strict-says}
 use Rattle.ecss.proofs.Pieces.{primary-is, states, secondary-octets, secondary-is, data-is, closed-length, octets-drop, octets-take, packet-back}
 
 -- ---- what an accepting verdict says
@@ -49,59 +49,72 @@ agrees k s p h =
     let a = accepted k s p h in
     (total-checked (startOf k) s (statedOf s) (a .frame) (a .verifies), total-frame (startOf k) s true (statedOf s) (a .frame), a .read)
 
--- ---- a packet under the rules is accepted
+-- ---- a packet that states its length is judged by the strict checks alone
 
-module _ {H : Type 0} (k : Kind H) (l : KindLaws k) (s : List ℕ) (p : Packet H) (b : BeginsWith k s p) where
+module _ {H : Type 0} (k : Kind H) (l : KindLaws k) (s : List ℕ) (p : Packet H) (v : Stated k true p) (rest : List ℕ) (e : s ≡ packetOf k p ++ rest) where
   header-is : readHeader s ≡ p .primary
-  header-is = ap readHeader (b .octets) ∙ primary-is k true p (b .rest) (b .rules .stated)
+  header-is = ap readHeader e ∙ primary-is k true p rest v
 
-  pub total-is : statedOf s ≡ startOf k + length (p .user) + 2
-  total-is = ap statedOf (b .octets) ∙ states k true p (b .rest) (b .rules .stated)
+  stated-is : statedOf s ≡ startOf k + length (p .user) + 2
+  stated-is = ap statedOf e ∙ states k true p rest v
 
   packet-length : length (packetOf k p) ≡ statedOf s
-  packet-length = closed-length k l true p (b .rest) (b .rules .stated) ∙ sym total-is
+  packet-length = closed-length k l true p rest v ∙ sym stated-is
+
+  secondary-of : secondaryOf (k .size) s ≡ k .enc (p .secondary)
+  secondary-of = ap (secondaryOf (k .size)) e ∙ secondary-octets k l true p rest v
 
   read-is : readAs k s (statedOf s) ≡ p
   unfolding readAs
   read-is =
-      let v = b .rules .stated in
-      let n : statedOf s - 2 - startOf k ≡ length (p .user) = omega (arith, total-is) in
-      let x = ap (λ (z : List ℕ). k .dec (secondaryOf (k .size) z)) (b .octets) ∙ secondary-is k l true p (b .rest) v in
-      let u = ap₂ (λ (m : ℕ) (z : List ℕ). take m (drop (startOf k) z)) n (b .octets) ∙ data-is k l true p (b .rest) v in
+      let n : statedOf s - 2 - startOf k ≡ length (p .user) = omega (arith, stated-is) in
+      let x = ap (λ (z : List ℕ). k .dec (secondaryOf (k .size) z)) e ∙ secondary-is k l true p rest v in
+      let u = ap₂ (λ (m : ℕ) (z : List ℕ). take m (drop (startOf k) z)) n e ∙ data-is k l true p rest v in
       λ i. record { primary = header-is i; secondary = x i; user = u i }
-
-  rule-is : strictRule k (readHeader s) (secondaryOf (k .size) s) ≡ gives tt
-  rule-is =
-      let f = b .rules .stated .fits in
-      ap₂ (strictRule k) header-is (ap (secondaryOf (k .size)) (b .octets) ∙ secondary-octets k l true p (b .rest) (b .rules .stated))
-      ∙ strict-passes k (p .primary) (k .enc (p .secondary)) (b .rules .primary) (l .enc-version (p .secondary) f) (l .rule-enc (p .secondary) f)
 
   verifies-is : crcOf (take (statedOf s) s) ≡ 0
   verifies-is =
-      ap (λ (x : List ℕ). crcOf (take (statedOf s) x)) (b .octets)
-      ∙ ap crcOf (take-at (packetOf k p) (b .rest) (statedOf s) packet-length)
+      ap (λ (x : List ℕ). crcOf (take (statedOf s) x)) e
+      ∙ ap crcOf (take-at (packetOf k p) rest (statedOf s) packet-length)
       ∙ sealed-verifies (contentOf k p)
 
   frame-stated : FrameIs (startOf k) s true (statedOf s)
   frame-stated =
-      let n : length s ≡ length (packetOf k p) + length (b .rest) = ap length (b .octets) ∙ length-append (packetOf k p) (b .rest) in
-      record { is = refl; room = omega (arith, total-is); fits = omega (arith, packet-length) }
+      let n : length s ≡ length (packetOf k p) + length rest = ap length e ∙ length-append (packetOf k p) rest in
+      record { is = refl; room = omega (arith, stated-is); fits = omega (arith, packet-length) }
 
-  -- and reported as it was written, with anything after it
-  pub complete : judge k s ≡ gives p
+  judged-by : judge k s ≡ (strictRule k (p .primary) (k .enc (p .secondary)) then λ _. gives p)
   unfolding judge
-  complete =
+  judged-by =
       gives-then _ (ruled k s) (statedOf s) (total-checked (startOf k) s (statedOf s) frame-stated verifies-is)
-      ∙ gives-then _ _ tt rule-is
-      ∙ ap gives read-is
+      ∙ (λ i. strictRule k (header-is i) (secondary-of i) then λ _. gives (read-is i))
 
-  rest-is : drop (statedOf s) s ≡ b .rest
-  rest-is = ap (drop (statedOf s)) (b .octets) ∙ drop-at (packetOf k p) (b .rest) (statedOf s) packet-length
+  rest-is : drop (statedOf s) s ≡ rest
+  rest-is = ap (drop (statedOf s)) e ∙ drop-at (packetOf k p) rest (statedOf s) packet-length
+
+module _ {H : Type 0} (k : Kind H) (l : KindLaws k) (s : List ℕ) (p : Packet H) where
+  pub total-is : BeginsWith k s p → statedOf s ≡ startOf k + length (p .user) + 2
+  total-is b = stated-is k l s p (b .rules .stated) (b .rest) (b .octets)
+
+  -- under the rules it is accepted and reported as it was written, with anything after it
+  pub complete : BeginsWith k s p → judge k s ≡ gives p
+  complete b =
+      let f = b .rules .stated .fits in
+      judged-by k l s p (b .rules .stated) (b .rest) (b .octets)
+      ∙ gives-then _ _ tt (strict-passes k (p .primary) (k .enc (p .secondary)) (b .rules .primary) (l .enc-version (p .secondary) f) (l .rule-enc (p .secondary) f))
+
+  -- with the APID of idle packets, and else under the rules, it is refused with 12
+  pub idle-judged : Rules k p → (rest : List ℕ) → s ≡ packetOf k (asIdle p) ++ rest → judge k s ≡ refuses (refusal 12 [])
+  idle-judged u rest e =
+      let v = u .stated in
+      let i : InRange (idleHeader (p .primary)) = record { version-fits = v .in-range .version-fits; apid-fits = omega arith; count-fits = v .in-range .count-fits } in
+      judged-by k l s (asIdle p) (record { in-range = i; fits = v .fits; states-length = v .states-length }) rest e
+      ∙ refuses-then _ _ _ (strict-idle k (p .primary) (k .enc (p .secondary)) (u .primary) (l .enc-version (p .secondary) (v .fits)))
 
 -- one packet at most, and one rest
 pub unique : {H : Type 0} (k : Kind H) → KindLaws k → (s : List ℕ) (p q : Packet H) (b : BeginsWith k s p) (c : BeginsWith k s q) → (p ≡ q) × (b .rest ≡ c .rest)
 unique k l s p q b c =
-    (gives-inj p q (sym (complete k l s p b) ∙ complete k l s q c), sym (rest-is k l s p b) ∙ rest-is k l s q c)
+    (gives-inj p q (sym (complete k l s p b) ∙ complete k l s q c), sym (rest-is k l s p (b .rules .stated) (b .rest) (b .octets)) ∙ rest-is k l s q (c .rules .stated) (c .rest) (c .octets))
 
 -- ---- what is accepted is a packet under the rules
 

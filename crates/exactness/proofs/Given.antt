@@ -57,7 +57,7 @@ module _ {H : Type 0} (w : Writer H) (l : WriterLaws w) where
                 states-length = omega arith;
               };
           at-most = g .at-most;
-          primary = record { version-zero = g .version-zero; type-is = refl; has-secondary = refl };
+          primary = record { version-zero = g .version-zero; type-is = refl; has-secondary = refl; not-idle = g .not-idle };
         }
 
     pub handed-new : Handed (w .kind) (packetBy h x d) → newBy w h x true true (length d) ≡ gives (madeBy w h d)

@@ -60,7 +60,7 @@ small-rule : (h : SpacePacketHeader) (l : List ℕ) → Free (strictRule pusC h 
 unfolding pusRule strictRule
 small-rule h l =
     small-then _ _ _
-    (free-if _ _ _ (omega arith) (free-if _ _ _ (omega arith) (free-if _ _ _ (omega arith) (free-if _ _ _ (omega arith) tt)))) (λ _. tt)
+    (free-if _ _ _ (omega arith) (free-if _ _ _ (omega arith) (free-if _ _ _ (omega arith) (free-if _ _ _ (omega arith) (free-if _ _ _ (omega arith) tt))))) (λ _. tt)
 
 small-judge : (s : List ℕ) → Free (judge pusC s)
 unfolding judge

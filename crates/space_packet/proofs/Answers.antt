@@ -100,7 +100,8 @@ errorOf n =
     (pick (eqb (n .number) 8) E.Reservation
     (pick (eqb (n .number) 9) (E.PacketVersion (getD (n .values) 0 0))
     (pick (eqb (n .number) 10) E.PacketTypeTm
-    (pick (eqb (n .number) 11) E.NoSecondaryHeader E.SourceWidth))))))))))
+    (pick (eqb (n .number) 11) E.NoSecondaryHeader
+    (pick (eqb (n .number) 12) E.IdleApid E.SourceWidth)))))))))))
 
 pub error-back : (e : PusError) → errorOf (numbersOf e) ≡ e
 unfolding errorOf
@@ -115,6 +116,7 @@ error-back E.Reservation = refl
 error-back (E.PacketVersion n) = refl
 error-back E.PacketTypeTm = refl
 error-back E.NoSecondaryHeader = refl
+error-back E.IdleApid = refl
 error-back E.SourceWidth = refl
 
 pub numbers-inj : (e f : PusError) → numbersOf e ≡ numbersOf f → e ≡ f

@@ -1,5 +1,7 @@
 -- The fields of the primary header, in the numbers that stand in its octets. CCSDS 133.0-B-2, 4.1.3.
 use Prim.Native.Nat.{ℕ, _+_, _*_, _/_, _%_}
+use mathlib.Core.Bool.{Bool}
+use lib.Dec.{eqb}
 use Rattle.space_packet.specs.Bits.{pick, lowest, flagNumber}
 use Rattle.space_packet.specs.Answer.{Answer, Kept, Passed, gives, refuses, inRange, numbersOf, checkAnswer}
 use Rattle.space_packet.specs.declared.Apid.{Apid}
@@ -22,6 +24,13 @@ apidCheck a = inRange 2 2047 (a .0)
 
 abbrev pub countCheck : SeqCount → Passed
 countCheck n = inRange 3 16383 (n .0)
+
+-- 4.1.3.3.4: the APID of all ones is reserved for idle packets
+abbrev pub idleApid : Apid
+idleApid = record { 0 = 2047 }
+
+abbrev pub isIdle : Apid → Bool
+isIdle a = eqb (a .0) (idleApid .0)
 
 abbrev pub apidAnswer : ApidResult → Answer Apid
 apidAnswer (A.Ok a) = gives a

@@ -7,7 +7,7 @@ ghost use lib.ListN.{length, drop, getD};
 ghost use lib.Dec.{eqb};
 ghost use Rattle.space_packet.specs.Answer.{bytesNumbers, numbersOf, inNumbers, gives, _then_, setIf, inRange, checkAnswer};
 ghost use Rattle.space_packet.specs.Bits.{be16, word};
-ghost use Rattle.space_packet.specs.Fields.{apidCheck, countCheck, apidAnswer, seqCountAnswer, typeNumber, typeOf, flagsNumber, flagsOf, idRaw, idOf, pscRaw, pscOf, idWithApid, idKept};
+ghost use Rattle.space_packet.specs.Fields.{apidCheck, countCheck, isIdle, apidAnswer, seqCountAnswer, typeNumber, typeOf, flagsNumber, flagsOf, idRaw, idOf, pscRaw, pscOf, idWithApid, idKept};
 ghost use Rattle.space_packet.specs.Header.{headerOctets, packetLen, InRange, headerCheck, spHeaderAnswer, headerRead, headerWrite, headerOf, idFrom, pscFrom, withId, withPsc, headerKept, sameHeader};
 ghost use Rattle.space_packet.specs.Wrote.{Wrote};
 ghost use Rattle.space_packet.specs.declared.PacketType.the-variants.{Tm, Tc};
@@ -47,6 +47,8 @@ pub enum PusError {
     PacketTypeTm,
     // 11
     NoSecondaryHeader,
+    // 12
+    IdleApid,
     // 32: a source ID of another width than 0, 8 and 16 bits
     SourceWidth,
 }
@@ -101,6 +103,7 @@ impl PusError {
             PusError::PacketVersion(version) => in_numbers(9, 1, version as u64, 0),
             PusError::PacketTypeTm => in_numbers(10, 0, 0, 0),
             PusError::NoSecondaryHeader => in_numbers(11, 0, 0, 0),
+            PusError::IdleApid => in_numbers(12, 0, 0, 0),
             PusError::SourceWidth => in_numbers(32, 0, 0, 0),
         }
     }
@@ -155,6 +158,9 @@ pub struct SeqCount(u16);
 
 pub const MAX_APID: Apid = Apid(2047);
 
+// All ones, which is reserved for idle packets.
+pub const IDLE_APID: Apid = Apid(2047);
+
 pub const MAX_SEQ_COUNT: SeqCount = SeqCount(16383);
 
 pub enum ApidResult {
@@ -190,6 +196,13 @@ impl Apid {
         ensures { λ r. ⌜ checkAnswer r ≡ apidCheck self ⌝ }
     {
         in_range(2, MAX_APID.0, self.0)
+    }
+
+    // Whether this is the APID of idle packets.
+    pub fn is_idle(self) -> bool
+        ensures { λ r. ⌜ r ≡ isIdle self ⌝ }
+    {
+        self.0 == IDLE_APID.0
     }
 }
 

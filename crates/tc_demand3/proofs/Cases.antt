@@ -34,4 +34,9 @@ cases-hold =
       a-nine = refl;
       a-from-c = refl;
       a-width = refl;
+      before-idle = refl;
+      idle = refl;
+      idle-a = refl;
+      idle-version = refl;
+      idle-read = refl;
     }

@@ -1,28 +1,31 @@
 -- The third demand, for every form that is taken: the strict verdict accepts bytes exactly when they begin with a checksummed
 -- telecommand that the written rules produce from some headers and data of at most 65,542 octets less the start and the checksum,
--- of PUS C 65,529. `tc_strict::judge_in` answers `strictIn` of its form and octets.
+-- of PUS C 65,529, with an APID of 0 to 2,046. `tc_strict::judge_in` answers `strictIn` of its form and octets.
 use Prim.Native.Nat.{ℕ, _+_, _-_, _/_, _≤_}
 use mathlib.Core.Path.{_≡_, refl, sym, ap, ap₂, _∙_, subst}
 use mathlib.Core.Logic.{_↔_}
-use mathlib.Core.Bool.{true}
-use mathlib.Core.List.{List}
+use mathlib.Core.Bool.{true, false}
+use mathlib.Core.List.{List, [], _++_}
 use native.Mathlib.Omega.{arith}
 use lib.ListN.{length, take, drop}
-use Rattle.space_packet.specs.Answer.{Numbers, gives, refuses}
+use borrow.Author.Tests.{eqb-false, ne-eqb}
+use Rattle.space_packet.specs.Answer.{Numbers, gives, refuses, refusal}
+use Rattle.space_packet.specs.Fields.{isIdle}
 use Rattle.space_packet.specs.Wrote.{Wrote}
+use Rattle.space_packet.specs.declared.Apid.{Apid}
 use Rattle.space_packet.specs.declared.SpacePacketHeader.{SpacePacketHeader}
 use Rattle.space_packet.specs.declared.SizeResult.{SizeResult}
 use Rattle.space_packet.specs.declared.SizeResult.the-variants as Z
 use Rattle.space_packet.proofs.Answers.{gives-inj, gives-then, then-gives, refuses-then, left-written}
 use Rattle.space_packet.proofs.Determined.{writes}
 use Rattle.ecss.specs.Frame.{Octets, statedOf}
-use Rattle.ecss.specs.Kind.{Rules, BeginsWith, judge, packetOf}
+use Rattle.ecss.specs.Kind.{Rules, BeginsWith, asIdle, judge, packetOf}
 use Rattle.ecss.specs.Version.{defaultConfig}
 use Rattle.ecss.proofs.Pieces.{data-is}
 use Rattle.ecss_write.specs.Writer.{packetBy, madeBy, newBy, Handed}
 use Rattle.reserve.specs.Reserve.{fillIn, filledBy, finishIn, finished}
 use Rattle.exactness.specs.Changed.{Changed}
-use Rattle.exactness.proofs.Exact.{complete, sound, unique, total-is, rewritten}
+use Rattle.exactness.proofs.Exact.{complete, idle-judged, sound, unique, total-is, rewritten}
 use Rattle.exactness.proofs.Changed.{refused}
 use Rattle.exactness.proofs.Given.{checked, handed-rules, handed-new, new-handed, handed-reserve, rules-write}
 use Rattle.exactness.proofs.Agree.{reserved-agrees}
@@ -45,6 +48,13 @@ use Rattle.tc_read.proofs.Records.{checked-is}
 use Rattle.tc_read.proofs.RoundTrip.{read-written, checked-written, data-written}
 use Rattle.tc_strict.specs.Verdict.{strictIn, strictOf}
 use Rattle.tc_demand3.specs.Rules.{Telecommand, AtMost, totalFor, reportFor, madeOf, Room, FinishedBy, Accepted}
+
+-- The APIDs within the written rules, those of 11 bits that are no idle packet's, are 0 to 2,046.
+pub apids : (a : Apid) → ((a .0 ≤ 2047) × (isIdle a ≡ false)) ↔ (a .0 ≤ 2046)
+apids a = (
+  λ h. let n : a .0 ≡ 2047 → ⊥ = eqb-false _ _ (h .1) in omega (arith, n, h .0),
+  λ h. (omega (arith, h), ne-eqb (a .0) 2047 (λ (e : a .0 ≡ 2047). omega (arith, e, h))),
+)
 
 module _ (f : TcForm) (good : formCheck f ≡ gives tt) where
   -- The written rules have at most so many octets of data, and so many are within them.
@@ -89,6 +99,11 @@ module _ (f : TcForm) (good : formCheck f ≡ gives tt) where
     λ b. (reportFor f (b .0), reports s (b .0) (b .1)),
   )
 
+  -- 7. A packet that only its APID, that of idle packets, sets apart from one under the rules is refused with 12 and nothing else.
+  pub idle-refused : (s : List ℕ) (p : Telecommand) → Rules (tc f) p → (rest : List ℕ) → s ≡ packetOf (tc f) (asIdle p) ++ rest → strictIn f s ≡ refuses (refusal 12 [])
+  unfolding strictIn
+  idle-refused s p u rest e = gives-then _ _ tt good ∙ refuses-then _ _ _ (idle-judged (tc f) (laws f good) s p u rest e)
+
   -- 4. Written packets are accepted: whatever write_to_slice in both checksum forms, the builder's path, and the reserved writer
   -- with its finish leave in a buffer, for headers and data under those rules, is accepted, in a buffer of any length that has
   -- room and with anything after it. First write_to_slice, whose two forms have one contract:
@@ -104,20 +119,21 @@ module _ (f : TcForm) (good : formCheck f ≡ gives tt) where
         accepted = reports after (packetBy h x d) (record { rules = u; rest = drop n before; octets = e });
       }
 
-  -- Then the builder's path. What construction or the builder makes, with the length set and a checksum, is under those rules,
-  pub made-under-rules : (h : SpacePacketHeader) (x : PusTcSecondaryHeader) (d : List ℕ) (t : PusTcCreator) → h .version ≡ 0 → x .version ≡ f .version
+  -- Then the builder's path. What construction or the builder makes, of packet version number 0, the form's version and no idle
+  -- packet's APID, with the length set and a checksum, is under those rules,
+  pub made-under-rules : (h : SpacePacketHeader) (x : PusTcSecondaryHeader) (d : List ℕ) (t : PusTcCreator) → h .version ≡ 0 → isIdle (h .«packet_id» .apid) ≡ false → x .version ≡ f .version
       → newIn f h x (length d) defaultConfig ≡ gives t → Rules (tc f) (packetBy (t .«sp_header») (t .«sec_header») d)
-  made-under-rules h x d t v c p =
+  made-under-rules h x d t v i c p =
       let a = then-gives (newBy (commandIn f) h x true true (length d)) _ t p in
       let m = new-handed (commandIn f) (writer-laws f good) h x d (a .0) (a .1) in
       let k = checked (commandIn f) (writer-laws f good) h x (m .0) in
       let w = fields-pass f x .0 (k .2) in
-      let g : Handed (tc f) (packetBy h x d) = record { in-range = k .1; version-zero = v; fits = record { version-is = c; ack-fits = w .0; source-fits = w .1 }; at-most = m .1 } in
+      let g : Handed (tc f) (packetBy h x d) = record { in-range = k .1; version-zero = v; not-idle = i; fits = record { version-is = c; ack-fits = w .0; source-fits = w .1 }; at-most = m .1 } in
       subst (λ (u : PusTcCreator). Rules (tc f) (packetBy (u .«sp_header») (u .«sec_header») d))
       (ap (λ (z : SpacePacketHeader). creatorIn f z x true) (sym (m .2)) ∙ gives-inj _ t (a .2))
       (handed-rules (commandIn f) (writer-laws f good) h x d g)
 
-  -- and where the fields are in range they make a creator t, and what t writes is accepted.
+  -- and where the fields are in range too they make a creator t, and what t writes is accepted.
   pub built-accepted : (p : Telecommand) (before : List ℕ) → Handed (tc f) p → Room f (p .user) before
       → (t : PusTcCreator) × (newIn f (p .primary) (p .secondary) (length (p .user)) defaultConfig ≡ gives t)
       × ((r : SizeResult) (after : List ℕ) → PacketWrote t (p .user) before r after → Accepted f (madeOf f p) before r after)

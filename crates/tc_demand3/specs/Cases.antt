@@ -1,4 +1,4 @@
--- The cases at the edges, P1 to P12 of PUS C and four of PUS A, as one table of what the definitions answer.
+-- The cases at the edges, P1 to P12 of PUS C, four of PUS A and five of idle packets, as one table of what the definitions answer.
 use mathlib.Core.Path.{_≡_}
 use mathlib.Core.Bool.{true, false}
 use mathlib.Core.List.{List, [], _∷_, _++_}
@@ -20,28 +20,31 @@ use Rattle.tc_strict.specs.Verdict.{strictIn, strictOf}
 abbrev pub ping : ℕ → List ℕ
 ping n = 0x19 ∷ 0x23 ∷ 0xC0 ∷ 0x05 ∷ 0x00 ∷ n ∷ 0x2F ∷ 0x11 ∷ 0x01 ∷ 0x00 ∷ 0x00 ∷ []
 
--- what is reported of it: APID 291, count 5, service 17, subtype 1, and no data
-abbrev pub pingHeader : ℕ → SpacePacketHeader
-pingHeader n = record {
+-- what is reported of it and of the same with another APID than 291: count 5, service 17, subtype 1, and no data
+abbrev pub headerFor : ℕ → ℕ → SpacePacketHeader
+headerFor apid n = record {
   version = 0;
-  «packet_id» = record { «packet_type» = Tc; «sec_header_flag» = true; apid = record { 0 = 291 } };
+  «packet_id» = record { «packet_type» = Tc; «sec_header_flag» = true; apid = record { 0 = apid } };
   psc = record { «seq_flags» = Unsegmented; «seq_count» = record { 0 = 5 } };
   «data_len» = n;
 }
 
-abbrev pub pingRecord : PusTcRecord
-pingRecord = record {
-  «sp_header» = pingHeader 6;
+abbrev pub recordFor : ℕ → ℕ → PusTcRecord
+recordFor apid crc = record {
+  «sp_header» = headerFor apid 6;
   «sec_header» = record { «message_type_id» = record { «type_id» = 17; «subtype_id» = 1 }; «source_id» = 0; «ack_flags» = record { 0 = 15 }; version = PusC };
   start = 11;
   end = 11;
   total = 13;
-  crc16 = Some 0x616D;
+  crc16 = Some crc;
 }
+
+abbrev pub pingRecord : PusTcRecord
+pingRecord = recordFor 291 0x616D
 
 abbrev pub pingBare : PusTcRecord
 pingBare = record {
-  «sp_header» = pingHeader 4;
+  «sp_header» = headerFor 291 4;
   «sec_header» = record { «message_type_id» = record { «type_id» = 17; «subtype_id» = 1 }; «source_id» = 0; «ack_flags» = record { 0 = 15 }; version = PusC };
   start = 11;
   end = 11;
@@ -55,13 +58,18 @@ pingA half = 0x19 ∷ 0x23 ∷ 0xC0 ∷ 0x05 ∷ 0x00 ∷ 0x04 ∷ (half * 16 + 
 
 abbrev pub pingRecordA : PusTcRecord
 pingRecordA = record {
-  «sp_header» = pingHeader 4;
+  «sp_header» = headerFor 291 4;
   «sec_header» = record { «message_type_id» = record { «type_id» = 17; «subtype_id» = 1 }; «source_id» = 0; «ack_flags» = record { 0 = 15 }; version = PusA };
   start = 9;
   end = 9;
   total = 11;
   crc16 = Some 0x8A99;
 }
+
+-- the ping command with the low octet of another APID, which has the highest three bits set, and with the first half of octet 6:
+-- 1F .. C0 05 00 06 .F 11 01 00 00
+abbrev pub pingTo : ℕ → ℕ → List ℕ
+pingTo low half = 0x1F ∷ low ∷ 0xC0 ∷ 0x05 ∷ 0x00 ∷ 0x06 ∷ (half * 16 + 15) ∷ 0x11 ∷ 0x01 ∷ 0x00 ∷ 0x00 ∷ []
 
 pub record Cases : Type 0 where
   -- the checksum of no octets, of 00, of FF, and of FF FF
@@ -89,3 +97,9 @@ pub record Cases : Type 0 where
   pub a-nine : strictIn (formA 0) (pingA 9 ++ (0xB1 ∷ 0xC3 ∷ [])) ≡ refuses (refusal 3 (9 ∷ []))
   pub a-from-c : strictIn (formA 16) (ping 6 ++ (0x61 ∷ 0x6D ∷ [])) ≡ refuses (refusal 3 (2 ∷ []))
   pub a-width : strictIn (formA 9) (pingA 1 ++ (0x8A ∷ 0x99 ∷ [])) ≡ refuses (refusal 32 [])
+  -- APID 2,046 is accepted; 2,047 is refused, in PUS A too, but behind another PUS version; and the reader takes it
+  pub before-idle : strictOf (pingTo 0xFE 2 ++ (0x1A ∷ 0x1A ∷ [])) ≡ gives (recordFor 2046 0x1A1A)
+  pub idle : strictOf (pingTo 0xFF 2 ++ (0x75 ∷ 0x5F ∷ [])) ≡ refuses (refusal 12 [])
+  pub idle-a : strictIn (formA 16) (pingTo 0xFF 1 ++ (0x79 ∷ 0xB1 ∷ [])) ≡ refuses (refusal 12 [])
+  pub idle-version : strictOf (pingTo 0xFF 1 ++ (0x79 ∷ 0xB1 ∷ [])) ≡ refuses (refusal 3 (1 ∷ []))
+  pub idle-read : checkedRead (pingTo 0xFF 2 ++ (0x75 ∷ 0x5F ∷ [])) ≡ gives (recordFor 2047 0x755F)

@@ -4,15 +4,15 @@ use Prim.Native.Nat.{ℕ, _+_, _-_, _≤_}
 use mathlib.Core.Path.{_≡_}
 use mathlib.Core.Logic.{_↔_}
 use mathlib.Core.Bool.{true}
-use mathlib.Core.List.{List, _++_}
+use mathlib.Core.List.{List, [], _++_}
 use lib.ListN.{length, drop}
 use Rattle.crc_register.specs.Crc.{crcOf}
-use Rattle.space_packet.specs.Answer.{Numbers, gives, refuses}
+use Rattle.space_packet.specs.Answer.{Numbers, gives, refuses, refusal}
 use Rattle.space_packet.specs.Wrote.{Wrote}
 use Rattle.space_packet.specs.declared.SizeResult.{SizeResult}
 use Rattle.space_packet.specs.declared.SizeResult.the-variants.{Ok}
 use Rattle.ecss.specs.Frame.{statedOf}
-use Rattle.ecss.specs.Kind.{Packet, BeginsWith, packetOf, contentOf}
+use Rattle.ecss.specs.Kind.{Packet, Rules, BeginsWith, asIdle, packetOf, contentOf}
 use Rattle.ecss.specs.declared.Crc16.the-variants.{Some}
 use Rattle.ecss_write.specs.Writer.{packetBy, madeBy}
 use Rattle.reserve.specs.Reserve.{fillIn, filledBy, finishIn, finished}
@@ -63,10 +63,12 @@ module _ (f : TcForm) where
   abbrev pub Accepts : Verdict → Telecommand → Type 0
   Accepts v p = verdictAnswer v ≡ gives (reportFor p)
 
-  -- the verdict v on s accepts if and only if s begins with such a packet, and reports that packet
+  -- the verdict v on s accepts if and only if s begins with such a packet, and reports that packet; where only its APID, that of idle
+  -- packets, sets it apart from one, v refuses it with 12
   pub record Exact (v : Verdict) (s : List ℕ) : Type 0 where
     pub exactly : ((r : PusTcRecord) × (verdictAnswer v ≡ gives r)) ↔ ((p : Telecommand) × BeginsWith (tc f) s p)
     pub reports : (p : Telecommand) → BeginsWith (tc f) s p → Accepts v p
+    pub idle : (p : Telecommand) → Rules (tc f) p → (rest : List ℕ) → s ≡ packetOf (tc f) (asIdle p) ++ rest → verdictAnswer v ≡ refuses (refusal 12 [])
 
   -- ---- what is written
 

@@ -545,7 +545,7 @@ fn first_octet(s: &[u8]) -> u8
     s[0]
 }
 
-// The strict checks of a telecommand, on its primary header and its secondary header's octets; 9, 10, 11, 3.
+// The strict checks of a telecommand, on its primary header and its secondary header's octets; 9, 10, 11, 3, 12.
 pub fn strict_rule(form: TcForm, h: SpHeader, second: &[u8]) -> CheckResult
     ensures { λ r. ⌜ checkAnswer r ≡ strictRule (tc form) h (now (second .entry)) ⌝ }
 {

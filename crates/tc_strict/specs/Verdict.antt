@@ -13,7 +13,7 @@ use Rattle.tc_read.specs.declared.PusTcRecord.{PusTcRecord}
 use Rattle.tc_strict.specs.declared.Verdict.{Verdict}
 use Rattle.tc_strict.specs.declared.Verdict.the-variants.{Accepted, Refused}
 
--- the form, all reader checks with checksum, then packet version number, type, secondary header flag, PUS version
+-- the form, all reader checks with checksum, then packet version number, type, secondary header flag, PUS version, APID
 unfoldable pub strictIn : TcForm → List ℕ → Answer PusTcRecord
 strictIn f s = formCheck f then λ _. judge (tc f) s then λ _. gives (recordIn f s true (statedOf s))
 

@@ -16,7 +16,7 @@ pub enum Verdict {
     Refused(PusError),
 }
 
-// All reader checks with checksum; then packet version number, type, secondary header flag and PUS version.
+// All reader checks with checksum; then packet version number, type, secondary header flag, PUS version, and the APID.
 pub fn judge(s: &[u8]) -> Verdict
     ensures { λ v. ⌜ verdictAnswer v ≡ strictOf (now (s .entry)) ⌝ }
 {

@@ -59,7 +59,8 @@ pub unsafe extern "C" fn rust_judge(data: *const u8, n: usize) -> usize {
             if reader.ccsds_version().value() == 0
                 && reader.is_tc()
                 && reader.sec_header_flag()
-                && reader.raw_data()[6] >> 4 == 2 =>
+                && reader.raw_data()[6] >> 4 == 2
+                && reader.apid().value() != 0x7FF =>
         {
             reader.len_packed()
         }

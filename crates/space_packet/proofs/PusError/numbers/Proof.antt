@@ -91,6 +91,12 @@ enum-told-5 c = search needs
 in-numbers-requires-10 : tie.Need-in-numbers-requires-10
 in-numbers-requires-10 c κs = search needs
 
+enum-told-6 : tie.Need-enum-told-6
+enum-told-6 c = search needs
+
+in-numbers-requires-11 : tie.Need-in-numbers-requires-11
+in-numbers-requires-11 c κs = search needs
+
 returns : tie.Need-returns
 returns c = told (c .numbers .ensures) (c .before .before .self .given .1)
 
@@ -124,6 +130,9 @@ returns-10 c = told (c .in-numbers9 .ensures) (c .before .enum-told4 .given .1)
 returns-11 : tie.Need-returns-11
 returns-11 c = told (c .in-numbers10 .ensures) (c .before .enum-told5 .given .1)
 
+returns-12 : tie.Need-returns-12
+returns-12 c = told (c .in-numbers11 .ensures) (c .before .enum-told6 .given .1)
+
 pub numbers-spec : {M : Type 1} → statement M
 numbers-spec =
     tie.close
@@ -155,6 +164,8 @@ numbers-spec =
     in-numbers-requires-9
     enum-told-5
     in-numbers-requires-10
+    enum-told-6
+    in-numbers-requires-11
     returns
     returns-2
     returns-3
@@ -165,4 +176,5 @@ numbers-spec =
     returns-8
     returns-9
     returns-10
-    returns-11)
+    returns-11
+    returns-12)
