@@ -270,6 +270,13 @@ def reserve(sp, sec, data_len, has_checksum, fill, finish, buffer):
 
 # Reading.
 
+def verified(octets, stored):
+    """2 for fewer octets than a checksum has; 4 with the stored checksum and that of all but the last two octets."""
+    refuse_if(len(octets) < 2, 2, len(octets), 2)
+    refuse_if(crc(octets) != 0, 4, stored, crc_text(octets[:-2]))
+    return 'ok'
+
+
 class Reader:
     """A packet read. `checksum` is none, taken or compared."""
 
@@ -285,7 +292,8 @@ class Reader:
             self.end = self.total - 2
             refuse_if(self.end < self.start, 2, self.end, self.start)
             self.stored = text(self.raw[self.end:])
-        refuse_if(checksum == 'compared' and crc(self.raw) != 0, 4, self.stored)
+        if checksum == 'compared':
+            verified(self.raw, self.stored)
         self.data = self.raw[self.start:self.end]
 
     def place(self):
@@ -439,8 +447,7 @@ def do_crc(octets):
 
 
 def do_verify(octets, stored):
-    verifies = crc(octets) == 0
-    return [int(verifies)] * 2 + ['ok' if verifies else Refused(4, text(stored))] * 2
+    return [int(crc(octets) == 0)] * 2 + [outcome(verified, octets, text(stored))] * 2
 
 
 def do_sphread(octets):

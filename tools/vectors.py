@@ -196,6 +196,8 @@ def read_requests(rng):
         yield f'verify {octets} 616D'
         yield f'verify {octets} 0000'
     yield from comparisons(rng)
+    for length in range(70):                              # both checksums of octets that do not verify, and of few
+        yield f'verify {text(rng.randbytes(length))} {text(rng.randbytes(2))}'
 
 
 def comparisons(rng):

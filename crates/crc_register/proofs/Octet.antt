@@ -7,7 +7,7 @@ use lib.Pow.{split, pow-pos}
 use lib.ListN.{getD}
 use Rattle.crc_register.specs.Crc.{_⊕_, bit, shiftIn, run, octetBits}
 use Rattle.crc_register.specs.Table.{entry, entries, crcTable}
-use Rattle.crc_register.proofs.Xor.{⊕-comm, ⊕-zero, zero-⊕, ⊕-swap, ⊕-shl, ⊕-join, ⊕-lt}
+use Rattle.crc_register.proofs.Xor.{⊕-comm, ⊕-zero, zero-⊕, ⊕-swap, ⊕-shl, ⊕-join, ⊕-lt, ⊕-mod, ⊕-undo}
 use Rattle.crc_register.proofs.Below.{same-below}
 use Rattle.crc_register.proofs.Linear.{octet-⊕}
 
@@ -84,3 +84,34 @@ shifts x = let y : ℕ = x ⊕ x / 16 in (y * 4096) % 65536 ⊕ (y * 32) % 65536
 pub shifts-entry : (k : ℕ) → k < 256 → shifts k ≡ entry k
 unfolding _⊕_ bit shiftIn run octetBits entry shifts
 shifts-entry = same-below shifts entry 256 tt
+
+-- ---- the step undone
+
+-- the low half of an entry tells which one it is
+unfoldable pub indexOf : ℕ → ℕ
+indexOf low = let y : ℕ = (low ⊕ (low * 32) % 65536) % 256 in y ⊕ y / 16
+
+index-is : (k : ℕ) → k < 256 → indexOf (entry k % 256) ≡ k
+unfolding _⊕_ bit shiftIn run octetBits entry indexOf
+index-is = same-below (λ k. indexOf (entry k % 256)) (λ k. k) 256 tt
+
+-- the register p before an octet o, from r, the one after it, by the number x of the entry and the entry e
+pub step-undone : (p o r x e : ℕ) → p < 65536 → o < 256 → run p (octetBits o) ≡ r → x ≡ indexOf (r % 256) → e ≡ run ((x * 256) % 65536) (octetBits 0)
+    → ((x ⊕ o) * 256) % 65536 ⊕ (r ⊕ e) / 256 ≡ p
+unfolding entry
+step-undone p o r x e hp ho is found given =
+    let k = p / 256 ⊕ o in
+    let h = index-lt p o hp ho in
+    let up : (p * 256) % 65536 ≡ p % 256 * 256 = omega arith in
+    let none : (p * 256) % 65536 % 256 ≡ 0 = ap (λ (z : ℕ). z % 256) up ∙ omega arith in
+    let low : (p * 256) % 65536 / 256 ≡ p % 256 = ap (λ (z : ℕ). z / 256) up ∙ omega arith in
+    let high : (p / 256 * 256) % 65536 ≡ p / 256 * 256 = omega arith in
+    let whole : (k * 256) % 65536 ≡ k * 256 = omega arith in
+    let step = sym is ∙ octet-step p o ho in
+    let told : r % 256 ≡ entry k % 256 = ap (λ (z : ℕ). z % 256) step ∙ ⊕-mod 8 ((p * 256) % 65536) (entry k) ∙ ap (λ (z : ℕ). z ⊕ entry k % 256) none ∙ zero-⊕ (entry k % 256) in
+    let number : x ≡ k = found ∙ ap indexOf told ∙ index-is k h in
+    let kept : e ≡ entry k = given ∙ ap (λ (z : ℕ). run ((z * 256) % 65536) (octetBits 0)) number ∙ ap (λ (z : ℕ). run z (octetBits 0)) whole in
+    ap₂ (λ (y z : ℕ). (y * 256) % 65536 ⊕ z / 256)
+    (ap (λ (z : ℕ). z ⊕ o) number ∙ ⊕-undo (p / 256) o)
+    (ap₂ _⊕_ step kept ∙ ⊕-undo ((p * 256) % 65536) (entry k))
+    ∙ ap₂ _⊕_ high low ∙ halves p

@@ -4,3 +4,4 @@ pub mod Octets
 pub mod Rules
 pub mod Determined
 pub mod Pieces
+pub mod Checksums

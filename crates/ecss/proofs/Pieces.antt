@@ -6,7 +6,7 @@ use mathlib.Core.List.{List, [], _∷_, _++_, append-assoc, append-nil}
 use native.Mathlib.Omega.{arith}
 use lib.Dec.{lit<}
 use lib.ListN.{length, getD, take, drop, length-append}
-use lib.Seq.{take-at, drop-at, take-add, drop-drop, drop-cons, getD-drop, getD-append-add}
+use lib.Seq.{take-at, drop-at, take-add, drop-drop, getD-drop, getD-append-add}
 use Rattle.space_packet.specs.Bits.{be16}
 use Rattle.space_packet.specs.Header.{headerOctets, readHeader, packetLen}
 use Rattle.space_packet.proofs.RoundTrip.{read-written, written-read, stated-total, length-headerOctets}
@@ -14,7 +14,7 @@ use Rattle.crc_register.specs.Crc.{crcOf}
 use Rattle.ecss.specs.Frame.{Octets, trailer, sealed, closed, statedOf, storedOf}
 use Rattle.ecss.specs.Kind.{Kind, KindLaws, Taken, Packet, Stated, startOf, contentOf, packetOf, secondaryOf, readAs}
 use Rattle.ecss.proofs.Frames.{FrameIs}
-use Rattle.ecss.proofs.Sealed.{verifies-sealed}
+use Rattle.ecss.proofs.Sealed.{verifies-sealed, take-two}
 
 -- ---- written, then read
 
@@ -113,11 +113,6 @@ octets-take (suc k) [] o i = lit< tt
 octets-take (suc k) (x ∷ s) o zero = o 0
 octets-take (suc k) (x ∷ s) o (suc i) = octets-take k s (λ j. o (suc j)) i
 
--- two octets more
-take-two : (s : List ℕ) (n : ℕ) → n + 2 ≤ length s → take (n + 2) s ≡ take n s ++ (getD s n 0 ∷ getD s (suc n) 0 ∷ [])
-take-two s n h =
-    take-add n 2 s ∙ rw (drop-cons s n 0 (omega arith), drop-cons s (suc n) 0 (omega arith))
-
 module _ {H : Type 0} (c : Kind H) (k : KindLaws c) (s : List ℕ) (n : ℕ) (o : Octets s) (f : FrameIs (startOf c) s true n) (r : Taken c (secondaryOf (c .size) s)) where
   content-back : contentOf c (readAs c s n) ≡ take (n - 2) s
   unfolding readAs contentOf
@@ -139,4 +134,4 @@ module _ {H : Type 0} (c : Kind H) (k : KindLaws c) (s : List ℕ) (n : ℕ) (o 
       let l : n ≤ length s = f .fits in
       let m : n ≡ n - 2 + 2 = omega arith in
       let e : take n s ≡ take (n - 2) s ++ _ = ap (λ (x : ℕ). take x s) m ∙ take-two s (n - 2) (omega arith) in
-      ap sealed content-back ∙ sym (e ∙ verifies-sealed (take (n - 2) s) _ _ (o (n - 2)) (o (suc (n - 2))) (sym (ap crcOf e) ∙ v))
+      ap sealed content-back ∙ sym (e ∙ verifies-sealed (take (n - 2) s) _ _ (o (n - 2)) (o (n - 2 + 1)) (sym (ap crcOf e) ∙ v))

@@ -2,7 +2,7 @@
 use Prim.Native.Nat.{ℕ, _/_}
 use mathlib.Core.Path.{_≡_, refl, ap, _∙_}
 use mathlib.Core.Bool.{true, not}
-use mathlib.Core.List.{List, []}
+use mathlib.Core.List.{List, [], _∷_}
 use native.Mathlib.Omega.{arith}
 use lib.ListN.{getD}
 use borrow.Author.Tests.{eq-eqb, eqb-true, not-false}
@@ -11,7 +11,7 @@ use Rattle.space_packet.specs.Fields.{typeNumber, isIdle}
 use Rattle.space_packet.specs.declared.SpacePacketHeader.{SpacePacketHeader}
 use Rattle.space_packet.specs.declared.PacketType.{PacketType}
 use Rattle.space_packet.specs.declared.PacketType.the-variants.{Tm, Tc}
-use Rattle.space_packet.proofs.Answers.{refuse-no, refuse-yes, refuse-gives, then-gives, gives-then, refuses-then}
+use Rattle.space_packet.proofs.Answers.{refuse-no, refuse-yes, refuse-gives, then-gives, gives-then, refuses-then, Holds, holds-if, holds-then}
 use Rattle.ecss.specs.Kind.{Kind, Primary, idleHeader, pusRule, strictRule}
 
 type-inj : (t u : PacketType) → typeNumber t ≡ typeNumber u → t ≡ u
@@ -51,6 +51,15 @@ module _ (type : PacketType) (other : Numbers) (version : ℕ) (h : SpacePacketH
   primary-rule : Primary type h → octet / 16 ≡ version → pusRule type other version h octet ≡ gives tt
   primary-rule k e = apid-last (k .version-zero) (k .type-is) (k .has-secondary) e ∙ refuse-no _ _ _ (k .not-idle)
 
+  -- what holds of each refusal of theirs
+  rule-holds : (Q : Numbers → Type 0) → Q (refusal 9 (h .version ∷ [])) → Q other → Q (refusal 11 []) → Q (refusal 3 (octet / 16 ∷ [])) → Q (refusal 12 [])
+      → Holds (λ (u : Unit {0}). Unit {0}) Q (pusRule type other version h octet)
+  unfolding pusRule
+  rule-holds Q a b c d e =
+      holds-if _ _ _ _ _ (λ _. a)
+      (λ _. holds-if _ _ _ _ _ (λ _. b)
+      (λ _. holds-if _ _ _ _ _ (λ _. c) (λ _. holds-if _ _ _ _ _ (λ _. d) (λ _. holds-if _ _ _ _ _ (λ _. e) (λ _. tt)))))
+
 module _ {H : Type 0} (k : Kind H) (h : SpacePacketHeader) (l : List ℕ) where
   pub strict-passes : Primary (k .type) h → getD l 0 0 / 16 ≡ k .version → k .rule l ≡ gives tt → strictRule k h l ≡ gives tt
   unfolding strictRule
@@ -69,3 +78,9 @@ module _ {H : Type 0} (k : Kind H) (h : SpacePacketHeader) (l : List ℕ) where
       let a = then-gives (pusRule (k .type) (k .other) (k .version) h (getD l 0 0)) _ tt p in
       let q = rule-primary (k .type) (k .other) (k .version) h (getD l 0 0) (a .1) in
       (q .0, q .1, a .2)
+
+  pub strict-holds : (Q : Numbers → Type 0) → Q (refusal 9 (h .version ∷ [])) → Q (k .other) → Q (refusal 11 []) → Q (refusal 3 (getD l 0 0 / 16 ∷ [])) → Q (refusal 12 [])
+      → Holds (λ (u : Unit {0}). Unit {0}) Q (k .rule l) → Holds (λ (u : Unit {0}). Unit {0}) Q (strictRule k h l)
+  unfolding strictRule
+  strict-holds Q a b c d e r =
+      holds-then _ _ _ _ (rule-holds (k .type) (k .other) (k .version) h (getD l 0 0) Q a b c d e) (λ _ _. r)

@@ -1,11 +1,12 @@
 -- The frame of a packet, over `start`, the octet at which its data starts: 11 for a PUS-C telecommand.
 use Prim.Native.Nat.{ℕ, _+_, _-_, _<_}
+use mathlib.Core.Path.{_≡_}
 use mathlib.Core.Bool.{Bool, true, false, not, _&&_}
 use mathlib.Core.List.{List, [], _∷_, _++_}
 use lib.ListN.{length, getD, take, drop}
 use lib.Dec.{ltb, eqb}
 use Rattle.space_packet.specs.Bits.{be16, word}
-use Rattle.space_packet.specs.Answer.{Answer, Passed, refusal, gives, refuses, refuseIf, _then_}
+use Rattle.space_packet.specs.Answer.{Numbers, Answer, Passed, refusal, gives, refuses, refuseIf, _then_}
 use Rattle.crc_register.specs.Crc.{crcOf}
 
 -- numbers that are octets
@@ -31,9 +32,16 @@ closed false l = l
 abbrev pub verifies : List ℕ → Bool
 verifies s = eqb (crcOf s) 0
 
--- or are refused with the number that is handed in
+-- all but the last two octets
+abbrev pub unsealed : List ℕ → List ℕ
+unsealed s = take (length s - 2) s
+
+-- or are refused: with 2 where they are fewer than two; else with the number that is handed in and the checksum of those before the
+-- last two
 abbrev pub verified : List ℕ → ℕ → Passed
-verified s stored = refuseIf (not (verifies s)) (refusal 4 (stored ∷ [])) (gives tt)
+verified s stored =
+    refuseIf (ltb (length s) 2) (refusal 2 (length s ∷ 2 ∷ []))
+    (refuseIf (not (verifies s)) (refusal 4 (stored ∷ crcOf (unsealed s) ∷ [])) (gives tt))
 
 -- ---- reading
 
@@ -58,13 +66,25 @@ frameOf start s b =
     (refuseIf (ltb (length s) (statedOf s)) (refusal 2 (length s ∷ statedOf s ∷ []))
     (refuseIf (ltb (statedOf s) start) (refusal 2 (statedOf s ∷ start ∷ [])) (checksumFits start b (statedOf s))))
 
--- the checksum that a packet of n octets stores
+-- the checksum that a packet of n octets stores, and the one of its octets before that
 abbrev pub storedOf : List ℕ → ℕ → ℕ
 storedOf s n = word s (n - 2)
+
+abbrev pub computedOf : List ℕ → ℕ → ℕ
+computedOf s n = crcOf (unsealed (take n s))
 
 -- all reader checks with checksum: octets after the stated total count for nothing
 unfoldable pub checkedOf : ℕ → List ℕ → Answer ℕ
 checkedOf start s = frameOf start s true then λ n. verified (take n s) (storedOf s n) then λ _. gives n
+
+-- what 4 tells of a packet of n octets: both checksums, which differ
+pub record BothChecksums (s : List ℕ) (n : ℕ) (e : Numbers) : Type 0 where
+  pub told : e ≡ refusal 4 (storedOf s n ∷ computedOf s n ∷ [])
+  pub differ : storedOf s n ≡ computedOf s n → ⊥
+
+-- and what a refusal of octets tells where it is 4
+abbrev pub Told : List ℕ → Numbers → Type 0
+Told s e = e .number ≡ 4 → BothChecksums s (statedOf s) e
 
 -- the packet that is handed out, and its data, without a copy; where it is refused, the empty part
 abbrev pub rawPart : Answer ℕ → List ℕ → List ℕ

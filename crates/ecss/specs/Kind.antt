@@ -6,7 +6,7 @@ use mathlib.Core.Bool.{Bool, true, false, not}
 use mathlib.Core.List.{List, [], _∷_, _++_}
 use lib.ListN.{length, getD, take, drop}
 use lib.Dec.{eqb}
-use Rattle.space_packet.specs.Answer.{Numbers, Answer, Passed, refusal, gives, refuseIf, _then_}
+use Rattle.space_packet.specs.Answer.{Numbers, Answer, Passed, refusal, gives, refuses, refuseIf, _then_}
 use Rattle.space_packet.specs.Fields.{typeNumber, idleApid, isIdle, idWithApid}
 use Rattle.space_packet.specs.Header.{headerOctets, readHeader, packetLen, InRange, withId}
 use Rattle.space_packet.specs.declared.SpacePacketHeader.{SpacePacketHeader}
@@ -57,6 +57,9 @@ pub record Taken {H : Type 0} (k : Kind H) (l : List ℕ) : Type 0 where
   pub versioned : getD l 0 0 / 16 ≡ k .version
   pub ruled : k .rule l ≡ gives tt
 
+abbrev pub NotFour : Numbers → Type 0
+NotFour e = e .number ≡ 4 → ⊥
+
 -- what a kind owes
 pub record KindLaws {H : Type 0} (k : Kind H) : Type 0 where
   pub enc-size : (x : H) → k .Fits x → length (k .enc x) ≡ k .size
@@ -65,6 +68,9 @@ pub record KindLaws {H : Type 0} (k : Kind H) : Type 0 where
   pub rule-enc : (x : H) → k .Fits x → k .rule (k .enc x) ≡ gives tt
   pub dec-fits : (l : List ℕ) → Taken k l → k .Fits (k .dec l)
   pub enc-dec : (l : List ℕ) → Taken k l → k .enc (k .dec l) ≡ l
+  -- what it refuses by itself is not 4, the checksum's number
+  pub other-not-four : NotFour (k .other)
+  pub rule-not-four : (l : List ℕ) (e : Numbers) → k .rule l ≡ refuses e → NotFour e
 
 -- the octet at which the data starts
 abbrev pub startOf : {H : Type 0} → Kind H → ℕ

@@ -1,6 +1,8 @@
 // What every PUS packet shares, after ECSS-E-ST-70-41C: its version, its message type, the verifying of its checksum, and
 // its frame.
 ghost use mathlib.Core.Path.{_≡_};
+ghost use Prim.Native.Nat.{ℕ, _<_};
+ghost use Rattle.crc_register.specs.Crc.{run, octetBits};
 ghost use Rattle.space_packet.specs.Answer.{checkAnswer, numbersOf};
 ghost use Rattle.ecss.specs.Version.{versionNumber, versionAnswer, versionOf, messageType, defaultConfig};
 ghost use Rattle.ecss.specs.Frame.{verifies, verified};
@@ -91,15 +93,40 @@ pub enum Crc16 {
     None,
 }
 
-// 4, with the number handed in, where the octets do not verify. Both names run with no table, the faster at every length of a
-// packet.
+// 2 for fewer octets than a checksum has. 4, with the number handed in and the checksum of all but the last two octets, where the
+// octets do not verify. Both names run with no table, the faster at every length of a packet, and once over the octets: where the
+// checksum over all of them is not 0, the one before the last two is found by going back over these.
 pub fn verify_crc16_ccitt_false_from_raw_to_pus_error(raw_data: &[u8], crc16: u16) -> CheckResult
     ensures { λ r. ⌜ checkAnswer r ≡ verified (now («raw_data» .entry)) crc16 ⌝ }
 {
-    if crc::crc_ccitt_false_no_table(raw_data) == 0 {
+    let n = raw_data.len();
+    if n < 2 {
+        return CheckResult::Err(PusError::ByteConversion(ByteConversionError::FromSliceTooSmall {
+            found: n,
+            expected: 2,
+        }));
+    }
+    let all = crc::crc_ccitt_false_no_table(raw_data);
+    if all == 0 {
         return CheckResult::Ok;
     }
-    CheckResult::Err(PusError::ChecksumFailure(crc16))
+    let computed = octet_back(octet_back(all, raw_data[n - 1]), raw_data[n - 2]);
+    CheckResult::Err(PusError::ChecksumFailure {
+        stored: crc16,
+        computed,
+    })
+}
+
+// The checksum's register before the octet b, from the one after it: the low half tells the number of the entry that was added, and
+// this what was in the high half.
+fn octet_back(r: u16, b: u8) -> u16
+    ensures { λ q. ⌜ ((p : ℕ) → p < 65536 → run p (octetBits b) ≡ r → q ≡ p) ⌝ }
+{
+    let low = r % 256;
+    let y = (low ^ (low << 5)) % 256;
+    let x = y ^ (y >> 4);
+    let entry = crc_register::no_table_octet(x << 8, 0);
+    ((x ^ (b as u16)) << 8) ^ ((r ^ entry) >> 8)
 }
 
 pub fn verify_crc16_ccitt_false_from_raw_to_pus_error_no_table(

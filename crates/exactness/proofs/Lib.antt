@@ -1,4 +1,5 @@
 pub mod Exact
+pub mod Told
 pub mod Places
 pub mod Changed
 pub mod Given

@@ -1,4 +1,5 @@
 // What answers are made of, each part written out as it comes.
+use space_packet::ByteConversionError;
 use space_packet::CheckResult;
 use space_packet::PusError;
 use space_packet::SizeResult;
@@ -78,14 +79,39 @@ fn hex(s: &[u8]) {
 
 // ---- refusals
 
-// err: and the number, then each value after a colon; a checksum in hexadecimal.
+// err: and the number, then each value after a colon; checksums in hexadecimal.
 pub(crate) fn refusal(e: PusError) {
+    match e {
+        PusError::ChecksumFailure { stored, computed } => {
+            say(b"err:4:");
+            word(stored);
+            say(b":");
+            word(computed);
+        }
+        PusError::ByteConversion(inner) => too_small(inner),
+        _ => in_decimal(e),
+    }
+}
+
+fn too_small(e: ByteConversionError) {
+    match e {
+        ByteConversionError::ToSliceTooSmall { found, expected } => {
+            two_values(b"err:1:", found, expected)
+        }
+        ByteConversionError::FromSliceTooSmall { found, expected } => {
+            two_values(b"err:2:", found, expected)
+        }
+    }
+}
+
+fn two_values(words: &[u8], found: usize, expected: usize) {
+    let v = [found as u64, expected as u64];
+    list(words, 58, &v, 2);
+}
+
+fn in_decimal(e: PusError) {
     let r = e.numbers();
     let v = [r.number as u64, r.first, r.second];
-    if r.number == 4 {
-        say(b"err:4:");
-        return word((r.first % 65536) as u16);
-    }
     let count = r.count;
     match count {
         0 => list(b"err:", 58, &v, 1),

@@ -12,10 +12,13 @@ use Rattle.text.specs.Digits.{decimal}
 use Rattle.text.proofs.Decimals.{decimal-length}
 use Rattle.space_packet.specs.Answer.{Numbers, Answer, gives, refuses, refuseIf, _then_}
 use Rattle.space_packet.specs.Bits.{pick}
+use Rattle.space_packet.proofs.Answers.{Holds, holds-if, holds-then, holds-more}
 use Rattle.space_packet.specs.declared.SpacePacketHeader.{SpacePacketHeader}
 use Rattle.ecss.specs.Frame.{Octets, statedOf, frameOf, checkedOf}
-use Rattle.ecss.specs.Kind.{pusRule, strictRule, judge}
+use Rattle.ecss.specs.Kind.{strictRule, judge}
+use Rattle.ecss.proofs.Frames.{frame-holds}
 use Rattle.ecss.proofs.Pieces.{octets-take, octets-drop}
+use Rattle.ecss.proofs.Rules.{strict-holds}
 use Rattle.tc_header.specs.Form.{formC, formCheck}
 use Rattle.tc_header.specs.Header.{pusC, tcOf}
 use Rattle.tc_read.specs.Read.{startC, recordIn}
@@ -30,37 +33,27 @@ use Rattle.report.proofs.Lines.{none-left}
 
 -- a refusal's number is small, and of what is given P holds
 abbrev Small : {A : Type 0} → (A → Type 0) → Answer A → Type 0
-Small P (gives x) = P x
-Small P (refuses e) = e .number < 100
+Small P a = Holds P (λ (e : Numbers). e .number < 100) a
 
 abbrev Free : {A : Type 0} → Answer A → Type 0
 Free {A} a = Small (λ (x : A). Unit {0}) a
 
 free-if : {A : Type 0} (b : Bool) (e : Numbers) (k : Answer A) → e .number < 100 → Free k → Free (refuseIf b e k)
-unfolding refuseIf
-free-if true e k h s = h
-free-if false e k h s = s
+free-if b e k h s = holds-if _ _ b e k (λ _. h) (λ _. s)
 
 small-then : {A B : Type 0} (P : B → Type 0) (a : Answer A) (f : A → Answer B) → Free a → ((x : A) → Small P (f x)) → Small P (a then f)
-unfolding _then_
-small-then P (gives x) f s k = k x
-small-then P (refuses e) f s k = s
+small-then P a f s k = holds-then _ _ a f s (λ x _. k x)
 
 small-frame : (s : List ℕ) → Free (frameOf startC s true)
-unfolding frameOf
-small-frame s =
-    free-if _ _ _ (omega arith) (free-if _ _ _ (omega arith) (free-if _ _ _ (omega arith) (free-if _ _ _ (omega arith) tt)))
+small-frame s = holds-more _ _ _ (frameOf startC s true) (λ e t. omega (arith, t)) (frame-holds startC s true)
 
 small-checked : (s : List ℕ) → Free (checkedOf startC s)
 unfolding checkedOf
 small-checked s =
-    small-then _ (frameOf startC s true) _ (small-frame s) (λ n. small-then _ _ _ (free-if _ _ _ (omega arith) tt) (λ _. tt))
+    small-then _ (frameOf startC s true) _ (small-frame s) (λ n. small-then _ _ _ (free-if _ _ _ (omega arith) (free-if _ _ _ (omega arith) tt)) (λ _. tt))
 
 small-rule : (h : SpacePacketHeader) (l : List ℕ) → Free (strictRule pusC h l)
-unfolding pusRule strictRule
-small-rule h l =
-    small-then _ _ _
-    (free-if _ _ _ (omega arith) (free-if _ _ _ (omega arith) (free-if _ _ _ (omega arith) (free-if _ _ _ (omega arith) (free-if _ _ _ (omega arith) tt))))) (λ _. tt)
+small-rule h l = strict-holds pusC h l _ (omega arith) (omega arith) (omega arith) (omega arith) (omega arith) tt
 
 small-judge : (s : List ℕ) → Free (judge pusC s)
 unfolding judge

@@ -1,6 +1,6 @@
 -- Laws of answers: what an answer says of its checks, and that a number with its values tells the refusal.
 use Prim.Native.Nat.{ℕ}
-use mathlib.Core.Path.{_≡_, refl, sym, ap, _∙_}
+use mathlib.Core.Path.{_≡_, refl, sym, ap, _∙_, subst}
 use mathlib.Core.Bool.{Bool, true, false}
 use mathlib.Core.List.{List, _++_}
 use native.Mathlib.Omega.{arith}
@@ -52,6 +52,46 @@ pub refuses-then : {A B : Type 0} (a : Answer A) (f : A → Answer B) (e : Numbe
 unfolding _then_
 refuses-then a f e p = ap (λ (z : Answer _). z then f) p
 
+-- a check, and what is asked next
+pub if-then : {A B : Type 0} (b : Bool) (e : Numbers) (k : Answer A) (f : A → Answer B) → (refuseIf b e k then f) ≡ refuseIf b e (k then f)
+unfolding refuseIf _then_
+if-then true e k f = refl
+if-then false e k f = refl
+
+-- what refuses nothing refuses with what comes before it
+pub then-refused : {A B : Type 0} (a : Answer A) (g : A → B) (e : Numbers) → (a then λ x. gives (g x)) ≡ refuses e → a ≡ refuses e
+unfolding _then_
+then-refused (refuses d) g e p = ap refuses (refuses-inj d e p)
+then-refused (gives x) g e p = absurd (never (g x) e (sym p))
+
+-- of what an answer gives P holds, and of what it refuses with Q
+abbrev pub Holds : {A : Type 0} → (A → Type 0) → (Numbers → Type 0) → Answer A → Type 0
+Holds P Q (gives x) = P x
+Holds P Q (refuses e) = Q e
+
+pub holds-if : {A : Type 0} (P : A → Type 0) (Q : Numbers → Type 0) (b : Bool) (e : Numbers) (k : Answer A) → (b ≡ true → Q e) → (b ≡ false → Holds P Q k) → Holds P Q (refuseIf b e k)
+unfolding refuseIf
+holds-if P Q true e k h s = h refl
+holds-if P Q false e k h s = s refl
+
+pub holds-then : {A B : Type 0} (P : B → Type 0) (Q : Numbers → Type 0) (a : Answer A) (f : A → Answer B)
+    → Holds (λ (x : A). Unit {0}) Q a → ((x : A) → a ≡ gives x → Holds P Q (f x)) → Holds P Q (a then f)
+unfolding _then_
+holds-then P Q (gives x) f s k = k x refl
+holds-then P Q (refuses e) f s k = s
+
+-- what follows from Q holds too; Q holds of each refusal that an answer can be, and of the one that it is
+pub holds-more : {A : Type 0} (P : A → Type 0) (Q R : Numbers → Type 0) (a : Answer A) → ((e : Numbers) → Q e → R e) → Holds P Q a → Holds P R a
+holds-more P Q R (gives x) f h = h
+holds-more P Q R (refuses e) f h = f e h
+
+pub holds-refused : {A : Type 0} (Q : Numbers → Type 0) (a : Answer A) → ((e : Numbers) → a ≡ refuses e → Q e) → Holds (λ (x : A). Unit {0}) Q a
+holds-refused Q (gives x) f = tt
+holds-refused Q (refuses e) f = f e refl
+
+pub held : {A : Type 0} (P : A → Type 0) (Q : Numbers → Type 0) (a : Answer A) (e : Numbers) → Holds P Q a → a ≡ refuses e → Q e
+held P Q a e h p = subst (Holds P Q) p h
+
 -- what is asked next, of an answer that is known
 pub then-of : {A B : Type 0} (a b : Answer A) (f : A → Answer B) → a ≡ b → (a then f) ≡ (b then f)
 then-of a b f e = ap (λ (x : Answer _). x then f) e
@@ -93,7 +133,7 @@ errorOf n =
     pick (eqb (n .number) 1) (E.ByteConversion (ToSliceTooSmall (getD (n .values) 0 0) (getD (n .values) 1 0)))
     (pick (eqb (n .number) 2) (E.ByteConversion (FromSliceTooSmall (getD (n .values) 0 0) (getD (n .values) 1 0)))
     (pick (eqb (n .number) 3) (E.VersionNotSupported (getD (n .values) 0 0))
-    (pick (eqb (n .number) 4) (E.ChecksumFailure (getD (n .values) 0 0))
+    (pick (eqb (n .number) 4) (E.ChecksumFailure (getD (n .values) 0 0) (getD (n .values) 1 0))
     (pick (eqb (n .number) 5) E.CrcCalculationMissing
     (pick (eqb (n .number) 6) (E.PacketTooLong (getD (n .values) 0 0))
     (pick (eqb (n .number) 7) (E.FieldRange (getD (n .values) 0 0) (getD (n .values) 1 0))
@@ -108,7 +148,7 @@ unfolding errorOf
 error-back (E.ByteConversion (ToSliceTooSmall a b)) = refl
 error-back (E.ByteConversion (FromSliceTooSmall a b)) = refl
 error-back (E.VersionNotSupported v) = refl
-error-back (E.ChecksumFailure c) = refl
+error-back (E.ChecksumFailure s c) = refl
 error-back E.CrcCalculationMissing = refl
 error-back (E.PacketTooLong n) = refl
 error-back (E.FieldRange p v) = refl

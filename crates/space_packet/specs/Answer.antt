@@ -60,7 +60,7 @@ bytesNumbers (FromSliceTooSmall found expected) = refusal 2 (found ∷ expected 
 abbrev pub numbersOf : PusError → Numbers
 numbersOf (E.ByteConversion e) = bytesNumbers e
 numbersOf (E.VersionNotSupported nibble) = refusal 3 (nibble ∷ [])
-numbersOf (E.ChecksumFailure stored) = refusal 4 (stored ∷ [])
+numbersOf (E.ChecksumFailure stored computed) = refusal 4 (stored ∷ computed ∷ [])
 numbersOf E.CrcCalculationMissing = refusal 5 []
 numbersOf (E.PacketTooLong length) = refusal 6 (length ∷ [])
 numbersOf (E.FieldRange place value) = refusal 7 (place ∷ value ∷ [])

@@ -30,8 +30,8 @@ pub enum PusError {
     ByteConversion(ByteConversionError),
     // 3, with the nibble
     VersionNotSupported(u8),
-    // 4, with the checksum that was stored, or handed in
-    ChecksumFailure(u16),
+    // 4, with the checksum that was stored, or handed in, and the one computed over all but the last two octets
+    ChecksumFailure { stored: u16, computed: u16 },
     // 5
     CrcCalculationMissing,
     // 6, with the length of the application data
@@ -95,7 +95,9 @@ impl PusError {
         match self {
             PusError::ByteConversion(e) => e.numbers(),
             PusError::VersionNotSupported(nibble) => in_numbers(3, 1, nibble as u64, 0),
-            PusError::ChecksumFailure(stored) => in_numbers(4, 1, stored as u64, 0),
+            PusError::ChecksumFailure { stored, computed } => {
+                in_numbers(4, 2, stored as u64, computed as u64)
+            }
             PusError::CrcCalculationMissing => in_numbers(5, 0, 0, 0),
             PusError::PacketTooLong(length) => in_numbers(6, 1, length as u64, 0),
             PusError::FieldRange { place, value } => in_numbers(7, 2, place as u64, value as u64),

@@ -16,9 +16,9 @@ use Rattle.space_packet.specs.declared.Apid.{Apid}
 use Rattle.space_packet.specs.declared.SpacePacketHeader.{SpacePacketHeader}
 use Rattle.space_packet.specs.declared.SizeResult.{SizeResult}
 use Rattle.space_packet.specs.declared.SizeResult.the-variants as Z
-use Rattle.space_packet.proofs.Answers.{gives-inj, gives-then, then-gives, refuses-then, left-written}
+use Rattle.space_packet.proofs.Answers.{gives-inj, gives-then, then-gives, refuses-then, then-refused, left-written}
 use Rattle.space_packet.proofs.Determined.{writes}
-use Rattle.ecss.specs.Frame.{Octets, statedOf}
+use Rattle.ecss.specs.Frame.{Octets, statedOf, Told}
 use Rattle.ecss.specs.Kind.{Rules, BeginsWith, asIdle, judge, packetOf}
 use Rattle.ecss.specs.Version.{defaultConfig}
 use Rattle.ecss.proofs.Pieces.{data-is}
@@ -27,6 +27,7 @@ use Rattle.reserve.specs.Reserve.{fillIn, filledBy, finishIn, finished}
 use Rattle.exactness.specs.Changed.{Changed}
 use Rattle.exactness.proofs.Exact.{complete, idle-judged, sound, unique, total-is, rewritten}
 use Rattle.exactness.proofs.Changed.{refused}
+use Rattle.exactness.proofs.Told.{told}
 use Rattle.exactness.proofs.Given.{checked, handed-rules, handed-new, new-handed, handed-reserve, rules-write}
 use Rattle.exactness.proofs.Agree.{reserved-agrees}
 use Rattle.tc_header.specs.Form.{formC, formA, isWidth, formCheck}
@@ -47,6 +48,7 @@ use Rattle.tc_read.specs.declared.PusTcRecord.{PusTcRecord}
 use Rattle.tc_read.proofs.Records.{checked-is}
 use Rattle.tc_read.proofs.RoundTrip.{read-written, checked-written, data-written}
 use Rattle.tc_strict.specs.Verdict.{strictIn, strictOf}
+use Rattle.tc_strict.proofs.Verdicts.{verdict-refused}
 use Rattle.tc_demand3.specs.Rules.{Telecommand, AtMost, totalFor, reportFor, madeOf, Room, FinishedBy, Accepted}
 
 -- The APIDs within the written rules, those of 11 bits that are no idle packet's, are 0 to 2,046.
@@ -189,6 +191,16 @@ module _ (f : TcForm) (good : formCheck f ≡ gives tt) where
       ap (λ (n : ℕ). take n s) (ap (λ (q : PusTcRecord). q .total) (sym e) ∙ sym (total-is (tc f) (laws f good) s p (b .1)))
       ∙ rewritten (tc f) (laws f good) s p o (complete (tc f) (laws f good) s p (b .1))
       ∙ (λ i. packetOf (tc f) (packetBy (e i .«sp_header») (e i .«sec_header») (sym d i)))
+
+  -- 8. Where the verdict refuses with 4, its two numbers are the checksum that the packet stores and the one of all its octets before,
+  -- and these differ;
+  pub tells : (s : List ℕ) (e : Numbers) → Octets s → strictIn f s ≡ refuses e → Told s e
+  unfolding strictIn
+  tells s e o p = told (tc f) (laws f good) s o e (then-refused (judge (tc f) s) (λ _. recordIn f s true (statedOf s)) e (sym (gives-then _ _ tt good) ∙ p))
+
+  -- and so where the ported reader does.
+  pub reader-tells : (s : List ℕ) (e : Numbers) → Octets s → checkedIn f s ≡ refuses e → Told s e
+  reader-tells s e o p = tells s e o (verdict-refused f s e p)
 
 -- ---- the editions: each theorem at PUS C, and at PUS A with each width that is taken; theorem 1 of both
 

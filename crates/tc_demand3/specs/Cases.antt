@@ -77,9 +77,9 @@ pub record Cases : Type 0 where
   pub p2 : crcOf (0x00 ∷ []) ≡ 0xE1F0
   pub p3 : crcOf (0xFF ∷ []) ≡ 0xFF00
   pub p4 : crcOf (0xFF ∷ 0xFF ∷ []) ≡ 0x0000
-  -- a ping command is accepted, and ending in 6C it is refused with 4 and 616C
+  -- a ping command is accepted, and ending in 6C it is refused with 4, 616C and 616D
   pub p5 : strictOf (ping 6 ++ (0x61 ∷ 0x6D ∷ [])) ≡ gives pingRecord
-  pub p6 : strictOf (ping 6 ++ (0x61 ∷ 0x6C ∷ [])) ≡ refuses (refusal 4 (0x616C ∷ []))
+  pub p6 : strictOf (ping 6 ++ (0x61 ∷ 0x6C ∷ [])) ≡ refuses (refusal 4 (0x616C ∷ 0x616D ∷ []))
   -- ten octets, and eleven with the length field 3
   pub p7 : strictOf (0x19 ∷ 0x23 ∷ 0xC0 ∷ 0x05 ∷ 0x00 ∷ 0x06 ∷ 0x2F ∷ 0x11 ∷ 0x01 ∷ 0x00 ∷ []) ≡ refuses (refusal 2 (10 ∷ 11 ∷ []))
   pub p8 : strictOf (ping 3) ≡ refuses (refusal 2 (10 ∷ 11 ∷ []))

@@ -11,7 +11,7 @@ use Rattle.space_packet.specs.Answer.{Numbers, gives, refuses, refusal}
 use Rattle.space_packet.specs.Wrote.{Wrote}
 use Rattle.space_packet.specs.declared.SizeResult.{SizeResult}
 use Rattle.space_packet.specs.declared.SizeResult.the-variants.{Ok}
-use Rattle.ecss.specs.Frame.{statedOf}
+use Rattle.ecss.specs.Frame.{statedOf, Told}
 use Rattle.ecss.specs.Kind.{Packet, Rules, BeginsWith, asIdle, packetOf, contentOf}
 use Rattle.ecss.specs.declared.Crc16.the-variants.{Some}
 use Rattle.ecss_write.specs.Writer.{packetBy, madeBy}
@@ -64,11 +64,13 @@ module _ (f : TcForm) where
   Accepts v p = verdictAnswer v ≡ gives (reportFor p)
 
   -- the verdict v on s accepts if and only if s begins with such a packet, and reports that packet; where only its APID, that of idle
-  -- packets, sets it apart from one, v refuses it with 12
+  -- packets, sets it apart from one, v refuses it with 12; and where v refuses with 4, it tells both checksums of the packet, and they
+  -- differ
   pub record Exact (v : Verdict) (s : List ℕ) : Type 0 where
     pub exactly : ((r : PusTcRecord) × (verdictAnswer v ≡ gives r)) ↔ ((p : Telecommand) × BeginsWith (tc f) s p)
     pub reports : (p : Telecommand) → BeginsWith (tc f) s p → Accepts v p
     pub idle : (p : Telecommand) → Rules (tc f) p → (rest : List ℕ) → s ≡ packetOf (tc f) (asIdle p) ++ rest → verdictAnswer v ≡ refuses (refusal 12 [])
+    pub tells : (e : Numbers) → verdictAnswer v ≡ refuses e → Told s e
 
   -- ---- what is written
 

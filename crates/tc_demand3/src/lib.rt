@@ -1,6 +1,6 @@
 // What the customer asks of the strict verdict, as theorems: specs/Rules.antt has the words, proofs/Demand3.antt the theorems.
 //
-// Theorems 1, 2, 4, 5 and 7 are also proved here of the calls themselves: the functions below write packets of a form, in either checksum
+// Theorems 1, 2, 4, 5, 7 and 8 are also proved here of the calls themselves: the functions below write packets of a form, in either checksum
 // form, and have octets judged. They are there for their contracts, and nothing calls them.
 ghost use mathlib.Core.Path.{_≡_};
 ghost use mathlib.Core.Bool.{true};
@@ -26,7 +26,7 @@ use tc_write::PusTcBuilder;
 use tc_write::PusTcCreator;
 use tc_write::PusTcCreatorResult;
 
-// ---- theorems 1, 2 and 7: octets are judged
+// ---- theorems 1, 2, 7 and 8: octets are judged
 
 fn judged(form: TcForm, octets: &[u8]) -> Verdict
     ensures { λ v. ⌜ (formCheck form ≡ gives tt → Exact form v (now (octets .entry))) ⌝ }

@@ -6,6 +6,7 @@ use native.Mathlib.Omega.{arith}
 use lib.ListN.{length, getD, drop}
 use lib.Seq.{drop-cons}
 use Rattle.space_packet.specs.Answer.{gives}
+use Rattle.space_packet.proofs.Answers.{never}
 use Rattle.ecss.specs.Kind.{KindLaws, Taken}
 use Rattle.ecss.specs.Version.{versionNumber}
 use Rattle.tc_header.specs.Form.{formCheck, sourceLen}
@@ -61,6 +62,8 @@ module _ (f : TcForm) (good : formCheck f ≡ gives tt) where
         rule-enc = λ x s. refl;
         dec-fits = dec-fits;
         enc-dec = written-read;
+        other-not-four = λ z. omega (arith, z);
+        rule-not-four = λ l e p. absurd (never tt e (sym p));
       }
 
 pub laws-c : KindLaws pusC

@@ -10,7 +10,7 @@ use borrow.Author.Tests.{le-ltb}
 use Rattle.space_packet.specs.Answer.{Answer, Numbers, gives, refuses, _then_}
 use Rattle.space_packet.specs.Header.{headerRead, readHeader}
 use Rattle.space_packet.specs.declared.SpacePacketHeader.{SpacePacketHeader}
-use Rattle.space_packet.proofs.Answers.{gives-inj, refuses-inj, never, refuse-no, then-gives, gives-then, refuses-then}
+use Rattle.space_packet.proofs.Answers.{gives-inj, refuse-no, then-gives, gives-then, refuses-then, then-refused}
 use Rattle.ecss.specs.Frame.{trailer, frameOf, checkedOf, rawPart, dataPart}
 use Rattle.ecss.specs.Kind.{secondaryOf}
 use Rattle.ecss.proofs.Frames.{frame-total, total-frame, checked-total}
@@ -144,20 +144,15 @@ module _ (f : TcForm) (s : List ℕ) where
   pub raw-part : (b : Bool) (r : PusTcRecord) → readIn f s b ≡ gives r → rawDataIn f s b ≡ take (r .total) s
   raw-part b r p = ap (λ (a : Answer ℕ). rawPart a s) (read-is b r p .0)
 
-  refused : (a : Answer ℕ) (g : ℕ → PusTcRecord) (e : Numbers) → (a then λ n. gives (g n)) ≡ refuses e → a ≡ refuses e
-  unfolding _then_
-  refused (refuses d) g e p = ap refuses (refuses-inj d e p)
-  refused (gives n) g e p = absurd (never (g n) e (sym p))
-
   pub checked-refused : (e : Numbers) → checkedIn f s ≡ refuses e → checkedFrame f s ≡ refuses e
   unfolding checkedIn
-  checked-refused e p = refused (checkedFrame f s) (recordIn f s true) e p
+  checked-refused e p = then-refused (checkedFrame f s) (recordIn f s true) e p
 
   -- where the read is refused, both parts are empty
   pub refused-parts : (b : Bool) (e : Numbers) → readIn f s b ≡ refuses e → (appDataIn f s b ≡ []) × (rawDataIn f s b ≡ [])
   unfolding readIn
   refused-parts b e p =
-      let q = refused (frameIn f s b) (recordIn f s b) e p in
+      let q = then-refused (frameIn f s b) (recordIn f s b) e p in
       (ap (λ (a : Answer ℕ). dataPart (startIn f) b a s) q, ap (λ (a : Answer ℕ). rawPart a s) q)
 
   -- the parts of a form that is refused, and of one that is taken

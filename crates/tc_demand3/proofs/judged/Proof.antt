@@ -1,8 +1,8 @@
--- `tc_demand3::judged` meets its contract: the verdict is the strict one, of which theorems 1, 2 and 7 speak.
+-- `tc_demand3::judged` meets its contract: the verdict is the strict one, of which theorems 1, 2, 7 and 8 speak.
 use mathlib.Core.Path.{sym, _∙_}
 use native.Mathlib.Omega.{arith}
 use Rattle.ecss.specs.Frame.{Octets}
-use Rattle.tc_demand3.proofs.Demand3.{exactly, reports, idle-refused}
+use Rattle.tc_demand3.proofs.Demand3.{exactly, reports, idle-refused, tells}
 use borrow.Author.Needs.{needs}
 use Rattle.tc_demand3.proofs.judged.Statement.{statement}
 use Rattle.tc_demand3.proofs.judged.Tie as tie
@@ -22,6 +22,7 @@ returns c =
       exactly = (λ v. t .0 (v .0, sym e ∙ v .1), λ b. let r = t .1 b in (r .0, e ∙ r .1));
       reports = λ p b. e ∙ reports (a .form) good s p b;
       idle = λ p u rest i. e ∙ idle-refused (a .form) good s p u rest i;
+      tells = λ n q. tells (a .form) good s n o (sym e ∙ q);
     }
 
 pub judged-spec : {M : Type 1} → statement M

@@ -31,6 +31,9 @@ enum-known-self-3 c = search needs
 cast-in-numbers-2 : tie.Need-cast-in-numbers-2
 cast-in-numbers-2 c = search needs
 
+cast-in-numbers-3 : tie.Need-cast-in-numbers-3
+cast-in-numbers-3 c = search needs
+
 in-numbers-requires-2 : tie.Need-in-numbers-requires-2
 in-numbers-requires-2 c κs = search needs
 
@@ -49,11 +52,11 @@ in-numbers-requires-4 c κs = search needs
 enum-known-self-5 : tie.Need-enum-known-self-5
 enum-known-self-5 c = search needs
 
-cast-in-numbers-3 : tie.Need-cast-in-numbers-3
-cast-in-numbers-3 c = search needs
-
 cast-in-numbers-4 : tie.Need-cast-in-numbers-4
 cast-in-numbers-4 c = search needs
+
+cast-in-numbers-5 : tie.Need-cast-in-numbers-5
+cast-in-numbers-5 c = search needs
 
 in-numbers-requires-5 : tie.Need-in-numbers-requires-5
 in-numbers-requires-5 c κs = search needs
@@ -67,8 +70,8 @@ in-numbers-requires-6 c κs = search needs
 enum-known-self-6 : tie.Need-enum-known-self-6
 enum-known-self-6 c = search needs
 
-cast-in-numbers-5 : tie.Need-cast-in-numbers-5
-cast-in-numbers-5 c = search needs
+cast-in-numbers-6 : tie.Need-cast-in-numbers-6
+cast-in-numbers-6 c = search needs
 
 in-numbers-requires-7 : tie.Need-in-numbers-requires-7
 in-numbers-requires-7 c κs = search needs
@@ -144,19 +147,20 @@ numbers-spec =
     in-numbers-requires
     enum-known-self-3
     cast-in-numbers-2
+    cast-in-numbers-3
     in-numbers-requires-2
     enum-told
     in-numbers-requires-3
     enum-known-self-4
     in-numbers-requires-4
     enum-known-self-5
-    cast-in-numbers-3
     cast-in-numbers-4
+    cast-in-numbers-5
     in-numbers-requires-5
     enum-told-2
     in-numbers-requires-6
     enum-known-self-6
-    cast-in-numbers-5
+    cast-in-numbers-6
     in-numbers-requires-7
     enum-told-3
     in-numbers-requires-8
