@@ -8,7 +8,7 @@ struct moment {
 };
 extern int clock_gettime(int, struct moment *);
 
-enum { ROUNDS = 120, FORMS = 9, LENGTHS = 6, LONGEST = 65542, LEAST = 13, CAPTURE = 65536, BAR = 60 };
+enum { ROUNDS = 120, FORMS = 9, LENGTHS = 6, LONGEST = 65542, LEAST = 13, TM_LEAST = 22, CAPTURE = 65536, BAR = 60 };
 
 #ifdef CRATE_ITSELF
 #define ITSELF(name, of) {name, of},
@@ -23,7 +23,8 @@ struct form {
 
 struct section {
     const char *name;
-    int held; // whether the processor is held behind each call
+    int held;    // whether the processor is held behind each call
+    usize least; // the fewest octets that it can prepare
     void (*prepare)(usize);
     struct form forms[FORMS];
     usize lengths[LENGTHS];
@@ -38,6 +39,7 @@ struct wanted {
 };
 
 static u8 octets[LONGEST], written[LONGEST];
+static const u8 stamp[] = {47, 84, 10, 27, 44, 61, 78};
 static volatile usize none; // 0, which the compiler cannot know
 
 // ---- what is timed
@@ -60,6 +62,13 @@ static void put_packet(u8 *s, usize n) {
 
 static void a_packet(usize n) { put_packet(octets, n); }
 
+static void a_report(usize n) {
+    any_octets(n - TM_LEAST);
+    c_tm_write(0x0923, 0xC005, 17, 2, stamp, sizeof stamp, octets, n - TM_LEAST, written, LONGEST);
+    for (usize i = 0; i < n; i++)
+        octets[i] = written[i];
+}
+
 // Packets of mixed lengths, the last of which ends the capture.
 static void a_capture(usize n) {
     static const usize lengths[] = {64, 13, 256, 30, 1024, 100, 4096};
@@ -80,6 +89,10 @@ static usize write_by(writer *of, const u8 *s, usize n) {
     return of(0x1923, 0xC005, 17, 1, s, n - LEAST, written, LONGEST);
 }
 
+static usize tm_write_by(tm_writer *of, const u8 *s, usize n) {
+    return of(0x0923, 0xC005, 17, 2, stamp, sizeof stamp, s, n - TM_LEAST, written, LONGEST);
+}
+
 // How many packets are accepted, up to the first that is not.
 static usize split_by(step *of, const u8 *s, usize n) {
     usize at = 0, packets = 0;
@@ -93,6 +106,9 @@ static usize split_by(step *of, const u8 *s, usize n) {
 AS_CALL(write_crate, write_by, crate_write)
 AS_CALL(write_crate_bits, write_by, crate_write_bits)
 AS_CALL(write_port, write_by, port_write)
+AS_CALL(tm_write_c, tm_write_by, c_tm_write)
+AS_CALL(tm_write_c_bits, tm_write_by, c_tm_write_bits)
+AS_CALL(tm_write_port, tm_write_by, port_tm_write)
 AS_CALL(split_crate, split_by, crate_step)
 AS_CALL(split_crate_bits, split_by, crate_step_bits)
 AS_CALL(split_port, split_by, port_step)
@@ -102,6 +118,7 @@ AS_CALL(write_rust, write_by, rust_write)
 
 static const struct section checksum = {
     "checksum",
+    0,
     0,
     any_octets,
     {{"crate, table of 256", crate_table},
@@ -118,6 +135,7 @@ static const struct section checksum = {
 static const struct section read = {
     "read and compare",
     1,
+    LEAST,
     a_packet,
     {{"crate, table of 256", crate_read},
      {"crate, bit steps", crate_read_bits},
@@ -129,6 +147,7 @@ static const struct section read = {
 static const struct section verdict = {
     "strict verdict",
     1,
+    LEAST,
     a_packet,
     {{"crate, table of 256", crate_judge},
      {"crate, bit steps", crate_judge_bits},
@@ -140,6 +159,7 @@ static const struct section verdict = {
 static const struct section writing = {
     "write",
     1,
+    LEAST,
     a_packet,
     {{"crate, table of 256", write_crate},
      {"crate, bit steps", write_crate_bits},
@@ -151,6 +171,7 @@ static const struct section writing = {
 static const struct section splitter = {
     "splitter",
     1,
+    LEAST,
     a_capture,
     {{"crate, table of 256", split_crate},
      {"crate, bit steps", split_crate_bits},
@@ -158,7 +179,35 @@ static const struct section splitter = {
     {CAPTURE},
 };
 
-static const struct section *const sections[] = {&checksum, &read, &verdict, &writing, &splitter};
+static const struct section tm_read = {
+    "telemetry read",
+    1,
+    TM_LEAST,
+    a_report,
+    {{"C, table of 256", c_tm_read}, {"C, bit steps", c_tm_read_bits}, {"port", port_tm_read}},
+    {TM_LEAST, 64, 256, 4096, LONGEST},
+};
+
+static const struct section tm_verdict = {
+    "telemetry verdict",
+    1,
+    TM_LEAST,
+    a_report,
+    {{"C, table of 256", c_tm_judge}, {"C, bit steps", c_tm_judge_bits}, {"port", port_tm_judge}},
+    {TM_LEAST, 64, 256, 4096, LONGEST},
+};
+
+static const struct section tm_writing = {
+    "telemetry write",
+    1,
+    TM_LEAST,
+    a_report,
+    {{"C, table of 256", tm_write_c}, {"C, bit steps", tm_write_c_bits}, {"port", tm_write_port}},
+    {TM_LEAST, 64, 256, 4096, LONGEST},
+};
+
+static const struct section *const sections[] = {&checksum, &read,    &verdict,    &writing,
+                                                 &splitter, &tm_read, &tm_verdict, &tm_writing};
 enum { SECTIONS = sizeof sections / sizeof *sections };
 
 static const struct wanted all_wanted[] = {
@@ -183,6 +232,15 @@ static const struct wanted all_wanted[] = {
     {&writing, 256, 0, 1.0, 1.0},
     {&writing, 4096, 0, 1.0, 1.0},
     {&writing, LONGEST, 0, 1.0, 1.0},
+    {&tm_read, TM_LEAST, 0, 1.2, 1.2},
+    {&tm_read, 4096, 0, 12.0, 12.0},
+    {&tm_verdict, TM_LEAST, 0, 1.2, 1.2},
+    {&tm_verdict, 4096, 0, 12.0, 12.0},
+    {&tm_writing, TM_LEAST, 0, 1.0, 1.0},
+    {&tm_writing, 64, 0, 1.0, 1.0},
+    {&tm_writing, 256, 0, 1.0, 1.0},
+    {&tm_writing, 4096, 0, 1.0, 1.0},
+    {&tm_writing, LONGEST, 0, 1.0, 1.0},
 };
 
 static int forms_of(const struct section *s) {
@@ -246,13 +304,14 @@ static int agree_turned(const struct section *s, usize n) {
 static int all_agree(void) {
     for (usize n = 0; n <= 1200; n++)
         for (int k = 0; k < SECTIONS; k++)
-            if ((n >= LEAST || sections[k] == &checksum) && !agree_prepared(sections[k], n))
+            if (n >= sections[k]->least && !agree_prepared(sections[k], n))
                 return 0;
     for (int k = 0; k < SECTIONS; k++)
         for (int l = 0; l < LENGTHS && sections[k]->lengths[l]; l++)
             if (!agree_prepared(sections[k], sections[k]->lengths[l]))
                 return 0;
-    return agree_turned(&read, 64) && agree_turned(&verdict, 64);
+    return agree_turned(&read, 64) && agree_turned(&verdict, 64) && agree_turned(&tm_read, 64)
+           && agree_turned(&tm_verdict, 64);
 }
 
 // ---- times
@@ -313,7 +372,7 @@ static int reached(const struct wanted *w, int emulated) {
     int last = forms_of(w->of) - 1;
     best(w->of, w->length, ns);
     double ratio = ns[w->to] / ns[last];
-    printf("  %-16s %5lu octets: %-14s to %-21s %6.2f of %4.1f  %s\n", w->of->name, w->length, w->of->forms[last].name,
+    printf("  %-17s %5lu octets: %-14s to %-21s %6.2f of %4.1f  %s\n", w->of->name, w->length, w->of->forms[last].name,
            w->of->forms[w->to].name, ratio, want, ratio >= want ? "reached" : "NOT REACHED");
     return ratio >= want;
 }

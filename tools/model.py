@@ -4,7 +4,8 @@
 It speaks the protocol of docs/PROTOCOL.md, one request a line in and one answer a line out, and was written from the
 layout, the table of refusals and the orders of refusals, without a look at the port or at the crate. The checksum is
 Python's own, binascii.crc_hqx. Unlike the crate it also has an answer outside the domain of equality (a field over its
-width, a version other than C, a total above 65,542 octets), to `strict` and `split`, and to requests in PUS A.
+width, a version other than C, a total above 65,542 octets), to `strict` and `split`, and to requests in PUS A and of
+telemetry.
 
     tools/model.py <requests >answers
 """
@@ -14,7 +15,8 @@ import sys
 
 MACHINE = 2**64 - 1        # the largest machine size
 LIMIT = 65542              # the largest total that a length field can state
-SETTER_PLACES = {'pvn': 1, 'apid': 2, 'scount': 3, 'ack': 4, 'source': 5}
+TOPS = {1: 7, 2: 2047, 3: 16383, 4: 15}      # the largest in range, by the place that refusal 7 reports
+SETTER_PLACES = {'pvn': 1, 'apid': 2, 'scount': 3, 'ack': 4, 'status': 4, 'source': 5}
 
 
 class Refused(Exception):
@@ -35,27 +37,9 @@ def refuse_if(test, *number_and_values):
         raise Refused(*number_and_values)
 
 
-class Form:
-    """A form of telecommand: its PUS version, and how many octets its source ID has. The data start after these."""
-
-    def __init__(self, version, source_octets):
-        self.version, self.source_octets, self.start = version, source_octets, 9 + source_octets
-        # The largest in range, by the place that refusal 7 reports.
-        self.tops = {1: 7, 2: 2047, 3: 16383, 4: 15, 5: 256**source_octets - 1}
-
-
-PUS_C = Form(2, 2)
-
-
-def pus_a(width):
-    """The form with a source ID of this many bits. 32: SourceWidth, before all others."""
-    refuse_if(width not in (0, 8, 16), 32)
-    return Form(1, width // 8)
-
-
-def in_range(place, value, form=PUS_C):
-    """7: FieldRange place, value. Place 5 can be over its width in PUS A alone."""
-    refuse_if(value > form.tops[place], 7, place, value)
+def in_range(place, value, tops=TOPS):
+    """7: FieldRange place, value."""
+    refuse_if(value > tops[place], 7, place, value)
     return value
 
 
@@ -112,22 +96,30 @@ class Sp:
 
 
 class Sec:
-    """The secondary header of a telecommand."""
+    """The secondary header of a telecommand. Its last field, of as many octets as the form says, is the source ID."""
 
     NAMES = ('version', 'ack', 'service', 'subtype', 'source')
+    LAST_AT, TYPE, OTHER_TYPE, NO_FORM = 9, 1, 10, 32
 
     def __init__(self, *fields):
         self.__dict__.update(zip(self.NAMES, fields))
 
     __str__ = Sp.__str__
 
-    def octets(self, form=PUS_C):
-        first = bytes([self.version << 4 | self.ack, self.service, self.subtype])
-        return first + self.source.to_bytes(form.source_octets, 'big')
+    def words(self):
+        return [self]
 
-    def check(self, form=PUS_C):
+    def fits(self, form):
+        return True
+
+    def octets(self, form):
+        first = bytes([self.version << 4 | self.ack, self.service, self.subtype])
+        return first + self.source.to_bytes(form.last_octets, 'big')
+
+    def check(self, form):
+        """7. Place 5 can be over its width in PUS A alone."""
         in_range(4, self.ack)
-        in_range(5, self.source, form)
+        in_range(5, self.source, form.tops)
 
     @classmethod
     def read(cls, octets, form):
@@ -135,21 +127,87 @@ class Sec:
         return cls(form.version, octets[6] & 15, octets[7], octets[8], int.from_bytes(octets[9:form.start], 'big'))
 
 
+class Tm:
+    """The secondary header of telemetry. Its last field, of as many octets as the form says, is the time."""
+
+    NAMES = ('version', 'status', 'service', 'subtype', 'counter', 'dest')
+    LAST_AT, TYPE, OTHER_TYPE, NO_FORM = 13, 0, 13, 14
+
+    __init__, __str__ = Sp.__init__, Sp.__str__
+
+    def at(self, time):
+        """The same fields with this time."""
+        self.time = time
+        return self
+
+    def words(self):
+        return [self, text(self.time)]
+
+    def fits(self, form):
+        return len(self.time) == form.last_octets
+
+    def octets(self, _):
+        first = bytes([self.version << 4 | self.status, self.service, self.subtype])
+        return first + be16(self.counter) + be16(self.dest) + self.time
+
+    def check(self, _):
+        in_range(4, self.status)
+
+    @classmethod
+    def read(cls, octets, form):
+        """The fields from octet 6 of a packet; the version is always reported as the form's."""
+        counter, dest = (int.from_bytes(octets[at:at + 2], 'big') for at in (9, 11))
+        return cls(form.version, octets[6] & 15, octets[7], octets[8], counter, dest).at(octets[13:form.start])
+
+
+class Form:
+    """A form of packet: the record of its secondary header, its PUS version, and how many octets the record's last field
+    has, which the mission fixes. The data start after these."""
+
+    def __init__(self, record, version, last_octets, good=True):
+        self.record, self.version, self.last_octets, self.good = record, version, last_octets, good
+        self.start = record.LAST_AT + last_octets
+        self.tops = TOPS | {5: 256**last_octets - 1}
+
+    def check(self, sec=None):
+        """32: SourceWidth, or 14: TimeLength, which a time of another length than the form's is too. Before all others."""
+        refuse_if(not self.good or sec and not sec.fits(self), self.record.NO_FORM)
+
+
+PUS_C = Form(Sec, 2, 2)
+
+
+def pus_a(width):
+    """The form with a source ID of this many bits."""
+    return Form(Sec, 1, width // 8, width in (0, 8, 16))
+
+
+def telemetry(length):
+    """The form with a time field of this many octets."""
+    return Form(Tm, 2, length, length <= 16)
+
+
 # Writing.
 
+def check_fields(form, sp, sec):
+    """32 or 14, then 7 in the order of the places."""
+    form.check(sec)
+    sp.check()
+    sec.check(form)
+
+
 class Creator:
-    """A telecommand to write. Construction: 7, 6."""
+    """A packet to write. Construction: 32 or 14, 7, 6."""
 
     def __init__(self, sp, sec, set_length, has_checksum, data, form=PUS_C):
         self.sp, self.sec, self.has_checksum, self.data, self.form = sp, sec, has_checksum, data, form
         self.check()
-        sp.type, sp.shf = 1, 1
+        sp.type, sp.shf = form.record.TYPE, 1
         if set_length:
             self.update_length()
 
     def check(self):
-        self.sp.check()
-        self.sec.check(self.form)
+        check_fields(self.form, self.sp, self.sec)
 
     def total(self):
         return self.form.start + len(self.data) + 2 * self.has_checksum
@@ -187,7 +245,7 @@ class Creator:
         if name == 'upd':
             return self.update_length()
         if name in SETTER_PLACES:
-            in_range(SETTER_PLACES[name], *values, self.form)
+            in_range(SETTER_PLACES[name], *values, self.form.tops)
         setattr(self.sp if name in Sp.NAMES else self.sec, name, *values)
 
     def answer(self, buffer):
@@ -219,7 +277,8 @@ def new_builder(form):
 
 
 def build(setters, data, form):
-    """The builder: each setter refuses what is handed in, 7; then construction, with the length set."""
+    """The builder: 32; each setter refuses what is handed in, 7; then construction, with the length set."""
+    form.check()
     sp, sec = new_builder(form)
     has_checksum, used = 1, b''
     for name, values in setters:
@@ -231,7 +290,7 @@ def build(setters, data, form):
         elif name == 'ack':
             sec.ack = in_range(4, *values)
         elif name == 'source':
-            sec.source = in_range(5, *values, form)
+            sec.source = in_range(5, *values, form.tops)
         elif name == 'mtid':
             sec.service, sec.subtype = values
         elif name == 'cksum':
@@ -243,21 +302,20 @@ def build(setters, data, form):
     return Creator(sp, sec, 1, has_checksum, used, form)
 
 
-def reserve(sp, sec, data_len, has_checksum, fill, finish, buffer):
-    """7, 6 for the machine size, 1, 6 for the packet limit, 3; then the data part filled, then the finish."""
-    start = PUS_C.start
+def reserve(sp, sec, data_len, has_checksum, fill, finish, buffer, form):
+    """14, 7, 6 for the machine size, 1, 6 for the packet limit, 3; then the data part filled, then the finish."""
+    start = form.start
     total = start + data_len + 2 * has_checksum
     try:
-        sp.check()
-        sec.check()
+        check_fields(form, sp, sec)
         refuse_if(total > MACHINE, 6, data_len)
         refuse_if(len(buffer) < total, 1, len(buffer), total)
         refuse_if(total > LIMIT, 6, data_len)
-        refuse_if(sec.version != PUS_C.version, 3, sec.version)
+        refuse_if(sec.version != form.version, 3, sec.version)
     except Refused as refusal:
         return [refusal, text(buffer)]
-    sp.type, sp.shf, sp.dlen = 1, 1, total - 7
-    first = sp.octets() + sec.octets() + buffer[start:]
+    sp.type, sp.shf, sp.dlen = form.record.TYPE, 1, total - 7
+    first = sp.octets() + sec.octets(form) + buffer[start:]
     filled = first[:start] + fill + first[start + len(fill):]
     end = start + data_len
     if finish == 'c':
@@ -281,9 +339,10 @@ class Reader:
     """A packet read. `checksum` is none, taken or compared."""
 
     def __init__(self, octets, checksum, form=PUS_C):
+        form.check()
         self.start = form.start
         refuse_if(len(octets) < self.start, 2, len(octets), self.start)
-        self.sp, self.sec = Sp.read(octets), Sec.read(octets, form)
+        self.sp, self.sec = Sp.read(octets), form.record.read(octets, form)
         self.total = self.sp.dlen + 7
         refuse_if(len(octets) < self.total, 2, len(octets), self.total)
         refuse_if(self.total < self.start, 2, self.total, self.start)
@@ -307,13 +366,13 @@ WAYS = {'new': 'compared', 'nt': 'compared', 'noverify': 'taken', 'nocrc': 'none
 
 
 def strict(octets, form=PUS_C):
-    """All reader checks with the checksum, then 9, 10, 11, 3, 12. The whole nibble counts, so PUS A refuses 9 as well."""
+    """All reader checks with the checksum, then 9, 10 or 13, 11, 3, 12. The whole nibble counts: PUS A refuses 9 too."""
     reader = Reader(octets, 'compared', form)
     refuse_if(reader.sp.pvn != 0, 9, reader.sp.pvn)
-    refuse_if(reader.sp.type == 0, 10)
+    refuse_if(reader.sp.type != form.record.TYPE, form.record.OTHER_TYPE)
     refuse_if(reader.sp.shf == 0, 11)
     refuse_if(octets[6] >> 4 != form.version, 3, octets[6] >> 4)
-    refuse_if(reader.sp.apid == 0b11111111111, 12)        # idle packets are no commands
+    refuse_if(reader.sp.apid == 0b11111111111, 12)        # idle packets: no commands, no reports
     return reader
 
 
@@ -409,9 +468,8 @@ def list_of(grammar):
 U8, U16, U64 = up_to(255), up_to(65535), up_to(MACHINE)
 FLAG, SEQFLAGS, VERSION = digit_of('0', '1'), digit_of('0', '1', '2', '3'), digit_of('0', '1', '2')
 SP_ROW, SEC_ROW = (U8, FLAG, FLAG, U16, SEQFLAGS, U16, U16), (VERSION, U8, U8, U8, U16)
+TM_ROW = (VERSION, U8, U8, U8, U16, U16)
 DATA, CCCC, MODE, FIN = octets_of, checksum_of, one_of(*WAYS), one_of('f', 'n', 'c')
-EDITS = list_of({'upd': None} | {
-    name: row_of(read) for name, read in [*zip(Sp.NAMES, SP_ROW), *zip(Sec.NAMES, SEC_ROW)]})
 SETTERS = list_of({
     'pid': row_of(FLAG, FLAG, U16), 'psc': row_of(SEQFLAGS, U16), 'scount': row_of(U16), 'mtid': row_of(U8, U8),
     'service': row_of(U8), 'subtype': row_of(U8), 'source': row_of(U16), 'ack': row_of(U8), 'apid': row_of(U16),
@@ -426,11 +484,17 @@ def SEC(word):
     return Sec(*row_of(*SEC_ROW)(word))
 
 
-def FORM(word):
-    """The source width of PUS A: any u8, since a width that is none is refused only where the whole line is good."""
-    if not word.startswith('a'):
-        raise BadRequest
-    return U8(word[1:])
+def TM(word):
+    return Tm(*row_of(*TM_ROW)(word))
+
+
+def edits_of(names, readers):
+    """EDITS of a creator whose secondary header has these fields."""
+    fields = [*zip(Sp.NAMES, SP_ROW), *zip(names, readers)]
+    return list_of({'upd': None} | {name: row_of(read) for name, read in fields})
+
+
+EDITS, TM_EDITS = edits_of(Sec.NAMES, SEC_ROW), edits_of(Tm.NAMES, TM_ROW)
 
 
 # The requests: each gives its words.
@@ -462,7 +526,7 @@ def do_sphwrite(sp, buffer):
 
 def do_read(mode, octets, form=PUS_C):
     reader = Reader(octets, WAYS[mode], form)
-    return ['ok', reader.sp, reader.sec, *reader.place(), reader.stored]
+    return ['ok', reader.sp, *reader.sec.words(), *reader.place(), reader.stored]
 
 
 def do_create(sp, sec, set_length, has_checksum, data, edits, buffer, form=PUS_C):
@@ -473,10 +537,15 @@ def do_build(setters, data, buffer, form=PUS_C):
     return build(setters, data, form).answer(buffer)
 
 
-def do_reserve(sp, sec, data_len, has_checksum, fill, finish, buffer):
+def do_reserve(sp, sec, data_len, has_checksum, fill, finish, buffer, form=PUS_C):
     if len(fill) > data_len:
         raise BadRequest
-    return reserve(sp, sec, data_len, has_checksum, fill, finish, buffer)
+    return reserve(sp, sec, data_len, has_checksum, fill, finish, buffer, form)
+
+
+def timed(do):
+    """A request whose header has its time in the next field."""
+    return lambda sp, tm, time, *fields: do(sp, tm.at(time), *fields)
 
 
 def do_cmprc(mode, octets, sp, sec, set_length, has_checksum, data, edits):
@@ -515,7 +584,7 @@ def do_consts():
 
 def do_strict(octets, form=PUS_C):
     reader = strict(octets, form)
-    return ['accept', reader.sp, reader.sec, *reader.place()]
+    return ['accept', reader.sp, *reader.sec.words(), *reader.place()]
 
 
 CREATION = [SP, SEC, FLAG, FLAG, DATA, EDITS]
@@ -536,28 +605,42 @@ REQUESTS = {
     'strict': (do_strict, [DATA]),
     'split': (split, [DATA]),
 }
-IN_FORM = {kind: REQUESTS[kind] for kind in ('read', 'create', 'build', 'strict')}      # what may come after `in FORM`
+IN_PUS_A = {kind: REQUESTS[kind] for kind in ('read', 'create', 'build', 'strict')}
+IN_TELEMETRY = {
+    'read': REQUESTS['read'],
+    'create': (timed(do_create), [SP, TM, DATA, FLAG, FLAG, DATA, TM_EDITS, DATA]),
+    'reserve': (timed(do_reserve), [SP, TM, DATA, U64, FLAG, DATA, FIN, DATA]),
+    'strict': REQUESTS['strict'],
+}
+FORMS = {'a': (pus_a, IN_PUS_A), 't': (telemetry, IN_TELEMETRY)}      # the form of a number, and what may come after it
+
+
+def FORM(word):
+    """A letter and any u8, since a number that makes no form is refused only where the whole line is good."""
+    if word[:1] not in FORMS:
+        raise BadRequest
+    form_of, known = FORMS[word[:1]]
+    return form_of(U8(word[1:])), known
 
 
 def parsed(line):
-    """The width that `in` names (none where the request is plain), the kind and its fields, each by its grammar."""
-    width, known = None, REQUESTS
+    """What a line asks for: the call, its kind, and its fields, each by its grammar, with the form last that `in` names."""
+    form, known = [], REQUESTS
     kind, *words = line.split(' ')
     if kind == 'in' and len(words) > 1:
-        width, known = FORM(words[0]), IN_FORM
-        kind, *words = words[1:]
+        named, known = FORM(words[0])
+        form, (kind, *words) = [named], words[1:]
     if kind not in known:
         raise BadRequest
-    return width, kind, [read(word) for read, word in pairs(known[kind][1], words)]
+    do, grammar = known[kind]
+    return do, kind, [read(word) for read, word in pairs(grammar, words)] + form
 
 
 def answer(line):
     """The answer to one request, both without the end of line."""
     try:
-        width, kind, fields = parsed(line)
-        if width is not None:
-            fields.append(pus_a(width))
-        return ' '.join(map(str, REQUESTS[kind][0](*fields)))
+        do, _, fields = parsed(line)
+        return ' '.join(map(str, do(*fields)))
     except Refused as refusal:
         return str(refusal)
     except BadRequest:

@@ -12,6 +12,7 @@ out at every run.
     strict   each refusal of the strict verdict, faults together, and captures for the splitter
     grammar  lines that are no request, and their neighbours that are
     pus_a    PUS A at each source width: read, judged, created and built, at the edges and refused; other widths
+    telemetry  reports at time lengths from 0 to 16: read, judged, created and reserved; other lengths; their grammar
 
     tools/vectors.py FOLDER
 """
@@ -22,7 +23,7 @@ import random
 import sys
 
 import model
-from model import Creator, Sec, Sp, be16, crc, pus_a, text
+from model import LIMIT, MACHINE, PUS_C, Creator, Sec, Sp, Tm, be16, crc, pus_a, telemetry, text
 
 P5 = '1923C00500062F11010000616D'
 P6 = P5[:-2] + '6C'
@@ -31,6 +32,7 @@ MODES = list(model.WAYS)
 # For each field of the headers what it may hold at most, by the standard and in the record.
 SP_WIDTHS = (7, 1, 1, 2047, 3, 16383, 65535)
 SEC_WIDTHS = (2, 15, 255, 255, 65535)
+TM_WIDTHS = (2, 15, 255, 255, 65535, 65535)
 
 
 def row(fields):
@@ -147,7 +149,7 @@ def refusal_orders():
         # The faults that an edit can bring after construction: the first is refused by the edit, the second by the writes.
         edits = ';'.join(e for e in ('pvn=8', 'version=0') if e.split('=')[0] in chosen) or '-'
         yield f'create 0,1,1,1,3,0,0 2,15,17,1,0 1 1 - {edits} {buffer}'
-    for data_len in (65529, 65530, 65535, 65536, model.MACHINE - 13, model.MACHINE - 12, model.MACHINE):
+    for data_len in (65529, 65530, 65535, 65536, MACHINE - 13, MACHINE - 12, MACHINE):
         for sp, sec in (P5_SP, P5_SEC), ('8,1,1,1,3,0,0', P5_SEC), (P5_SP, '0,15,17,1,0'):
             yield f'reserve {sp} {sec} {data_len} 1 - f {zeros(13)}'
 
@@ -159,10 +161,14 @@ def limits_requests(rng):
     yield f'reserve {P5_SP} 1,15,17,1,0 65530 1 - f {zeros(65543)}'       # 6 stands before 3
 
 
-def tc(data=b'', sp=(0, 1, 1, 291, 3, 5, 0), sec=(2, 15, 17, 1, 0)):
+def packet_of(sp, sec, data, form):
     """The octets of a packet with its checksum."""
-    creator = Creator(Sp(*sp), Sec(*sec), 1, 1, data)
+    creator = Creator(Sp(*sp), sec, 1, 1, data, form)
     return creator.write(bytes(creator.total()), True)[1]
+
+
+def tc(data=b'', sp=(0, 1, 1, 291, 3, 5, 0), sec=(2, 15, 17, 1, 0)):
+    return packet_of(sp, Sec(*sec), data, PUS_C)
 
 
 def sealed(octets):
@@ -231,26 +237,29 @@ def comparisons(rng):
     yield from (f'cmprr nocrc {text(packet)} noverify {one}' for one in flip)
 
 
+# Each makes the first octets of a packet with APID 291 wrong in one way.
+FAULTS = {'short': {}, 'checksum': {}, 'pvn': {0: 0x20}, 'type': {0: 0x10}, 'flag': {0: 0x08}, 'nibble': {6: 0x10},
+          'idle': {0: 0x06, 1: 0xDC}}
+
+
+def faulty(packet, chosen):
+    """A packet with these faults, its checksum right unless that is one of them."""
+    body = bytearray(packet[:-2])
+    for fault in chosen:
+        for at, bits in FAULTS[fault].items():
+            body[at] ^= bits
+    octets = bytearray(sealed(bytes(body)))
+    if 'checksum' in chosen:
+        octets[-1] ^= 1
+    return bytes(octets[:-1] if 'short' in chosen else octets)
+
+
 def strict_requests(rng):
-    faults = {                                            # each makes a packet's first octets wrong in one way
-        'short': {}, 'checksum': {}, 'pvn': {0: 0x20}, 'type': {0: 0x10}, 'flag': {0: 0x08}, 'nibble': {6: 0x10},
-        'idle': {0: 0x06, 1: 0xDC}}
-
-    def packet_with(chosen, data):
-        body = bytearray(tc(data)[:-2])
-        for fault in chosen:
-            for at, bits in faults[fault].items():
-                body[at] ^= bits
-        octets = bytearray(sealed(bytes(body)))
-        if 'checksum' in chosen:
-            octets[-1] ^= 1
-        return bytes(octets[:-1] if 'short' in chosen else octets)
-
     yield f'strict {P5}'
     yield f'strict {P6}'
     for count, data in itertools.product((0, 1, 2, 3), (b'', b'\x01\x02')):
-        for chosen in itertools.combinations(faults, count):
-            yield f'strict {text(packet_with(chosen, data))}'
+        for chosen in itertools.combinations(FAULTS, count):
+            yield f'strict {text(faulty(tc(data), chosen))}'
     for first in range(0, 256, 8):                        # every version number, type and flag; every version nibble
         yield f'strict {text(sealed(bytes([first | 1]) + bytes.fromhex("23C00500062F11010000")))}'
     for nibble in range(16):
@@ -266,7 +275,7 @@ def strict_requests(rng):
     # Captures: P5, P6 and a tail; one packet of each fault; tails of every length.
     yield f'split {P5}{P6}1923C0'
     yield 'split -'
-    each = [packet_with([fault], b'\x07') for fault in faults if fault != 'short']
+    each = [faulty(tc(b'\x07'), [fault]) for fault in FAULTS if fault != 'short']
     yield f'split {text(b"".join(each))}'
     yield f'split {text(b"".join(each[::-1]))}{P5}'
     yield f'split {P5}{"1923C0050000FF"}{P5}{"1923C00500042F11010000"}{P5}'       # totals of 7 and 11: number 2
@@ -274,8 +283,10 @@ def strict_requests(rng):
         yield f'split {P5}{P5[:2 * length]}'
         yield f'split {text(bytes.fromhex(P5)[:length])}'
     for _ in range(30):
-        packets = [packet_with(rng.sample(list(faults), rng.choice((0, 0, 1))), rng.randbytes(rng.randint(0, 5)))
-                   for _ in range(rng.randint(0, 8))]
+        packets = []
+        for _ in range(rng.randint(0, 8)):
+            chosen = rng.sample(list(FAULTS), rng.choice((0, 0, 1)))
+            packets.append(faulty(tc(rng.randbytes(rng.randint(0, 5))), chosen))
         yield f'split {text(b"".join(packets) + rng.randbytes(rng.randint(0, 8)))}'
     yield f'split {text(bytes.fromhex(P5) * 40)}'
 
@@ -343,7 +354,7 @@ def pus_a_requests(rng):
 
 def a_packet(form, nibble=1, data=b'', source=0, first=0x19, second_octet=0x23):
     """A ping of PUS A with its right checksum, whatever its nibble is."""
-    second = bytes([nibble << 4 | 15, 17, 1]) + source.to_bytes(form.source_octets, 'big')
+    second = bytes([nibble << 4 | 15, 17, 1]) + source.to_bytes(form.last_octets, 'big')
     return sealed(bytes([first, second_octet]) + bytes.fromhex('C005') + be16(form.start + len(data) - 5) + second + data)
 
 
@@ -406,8 +417,235 @@ def a_writings(rng, form):
         yield f'create {P5_SP} 1,15,17,1,{within[-1]} 1 1 {text(data)} - -'
 
 
+
+TIME_LENGTHS = (0, 1, 4, 7, 16)
+TM_SP, PONG = '0,0,1,291,3,5,0', '2,1,17,2,3,4'           # the report of a ping
+
+
+def clock(length):
+    """A time field, each octet another."""
+    return bytes(range(0xA0, 0xA0 + length))
+
+
+def tm(form, data=b'', sp=(0, 0, 1, 291, 3, 5, 0), fields=(2, 1, 17, 2, 3, 4)):
+    return packet_of(sp, Tm(*fields).at(clock(form.last_octets)), data, form)
+
+
+def with_octet(packet, at, octet):
+    """A packet with another octet, sealed anew."""
+    return sealed(packet[:at] + bytes([octet]) + packet[at + 1:-2])
+
+
+def telemetry_requests(rng):
+    for length in TIME_LENGTHS:
+        form = telemetry(length)
+        yield from (f'in t{length} {request}' for part in (tm_readings, tm_writings) for request in part(rng, form))
+    parts = tm_lengths, tm_verdicts, tm_edits, tm_orders, tm_reservations
+    yield from (f'in t7 {request}' for part in parts for request in part(rng, telemetry(7)))
+    yield from tm_fields(rng)
+    # The same octets at another time length: what is time here is source data there.
+    packet = text(tm(telemetry(15), bytes([7, 8, 9])))
+    yield from (f'in t{length} strict {packet}' for length in (0, 7, 14, 15, 16))
+    # What is accepted as telemetry is no command, and the other way round.
+    for length in 0, 7:
+        packet = text(tm(telemetry(length), b'\x01'))
+        yield from (f'{way} {packet}' for way in (f'in t{length} strict', 'strict', 'in a0 strict', 'in a16 strict'))
+    packet = text(tc(bytes(6)))
+    yield from (f'{way} {packet}' for way in ('strict', 'in t0 strict', 'in t4 strict', 'in t4 read new', 'in t7 strict'))
+    yield f'in t0 strict {text(a_packet(pus_a(16), data=bytes(2)))}'
+    yield from tm_above_16()
+    yield from tm_limits()
+    yield from tm_grammar()
+
+
+def tm_above_16():
+    """A time length above 16 is refused before everything else that is wrong, also with a time of that length."""
+    for length in 17, 255:
+        time = text(clock(7) * 40)[:2 * length]
+        yield from (f'in t{length} {request}' for request in (
+            'read new -', f'strict {text(tm(telemetry(16), bytes(9)))}',
+            'create 8,0,1,2048,3,16384,0 1,16,17,2,3,4 - 1 1 - status=16 -',
+            f'reserve 8,0,1,2048,3,16384,0 1,16,17,2,3,4 - {MACHINE} 1 0A c 0B'))
+        for headers in (f'{TM_SP} {PONG}', f'8,0,1,291,3,5,0 {PONG}', f'0,0,1,2048,3,5,0 {PONG}',
+                        f'0,0,1,291,3,16384,0 {PONG}', f'{TM_SP} 2,16,17,2,3,4', f'{TM_SP} 1,1,17,2,3,4'):
+            yield from (f'in t{length} create {headers} {time} {set_length} 1 - - {zeros(40)}' for set_length in '10')
+            yield f'in t{length} reserve {headers} {time} 0 1 - f {zeros(40)}'
+
+
+def tm_readings(rng, form):
+    pong = tm(form, rng.randbytes(2))
+    wrong = pong[:-1] + bytes([pong[-1] ^ 1])
+    yield from (f'read {mode} {text(pong)}' for mode in MODES)
+    yield from (f'{way} {text(wrong)}' for way in ('read nt', 'read noverify', 'strict'))
+    yield from (f'strict {text(octets)}' for octets in (pong + b'tail', tm(form), tm(form)[:form.start - 1]))
+
+
+def tm_writings(rng, form):
+    length, headers = form.last_octets, f'{TM_SP} {PONG}'
+    time = text(clock(length))
+    total = form.start + 4                                # of two octets of source data and a checksum
+    for has, more in (1, -1), (1, 0), (1, 2), (0, -3), (0, -2):
+        yield f'create {headers} {time} 1 {has} 0A0B - {text(rng.randbytes(total + more))}'
+    for has, finish, more in (1, 'f', -1), (1, 'f', 0), (1, 'n', 1), (1, 'c', 0), (0, 'f', -2):
+        yield f'reserve {headers} {time} 2 {has} 0A {finish} {text(rng.randbytes(total + more))}'
+    for other in sorted({max(0, length - 1), length + 1, 0} - {length}):      # a time of another length, all else good
+        yield f'create {headers} {text(clock(other))} 1 1 0A0B - {zeros(total + 1)}'
+    yield f'reserve {headers} {text(clock(other))} 2 1 0A0B f {zeros(total + 1)}'
+
+
+def tm_lengths(_, form):
+    """Totals around the least ones: as many octets as are stated, and one fewer."""
+    for total in range(form.start - 1, form.start + 4):
+        octets = tm(form, bytes(5))
+        octets = octets[:4] + be16(total - 7) + octets[6:total]
+        if total >= form.start + 2:
+            octets = sealed(octets[:-2])
+        yield from (f'read {mode} {text(octets)}' for mode in MODES)
+        yield from (f'{way} {text(octets[:-1])}' for way in ('read new', 'read nocrc', 'strict'))
+
+
+def tm_verdicts(_, form):
+    for chosen in itertools.chain.from_iterable(itertools.combinations(FAULTS, count) for count in (1, 2)):
+        yield f'strict {text(faulty(tm(form, bytes([1, 2])), chosen))}'
+    for nibble in 0, 1, 2, 3, 9, 15:                      # the reader reports C, whatever stands there
+        yield f'strict {text(with_octet(tm(form), 6, nibble << 4 | 5))}'
+        yield f'read new {text(with_octet(tm(form), 6, nibble << 4 | 5))}'
+    yield from (f'strict {text(with_octet(tm(form), 0, number << 5 | 9))}' for number in (2, 7))
+    for apid, way in itertools.product((2046, 2047), ('strict', *(f'read {mode}' for mode in MODES))):
+        yield f'{way} {text(tm(form, b"", (0, 0, 1, apid, 3, 5, 0)))}'
+
+
+def tm_edits(_, form):
+    time, total = text(clock(7)), form.start + 4
+    for edits in ('apid=7', 'apid=2047', 'scount=9', 'sflags=0', 'status=0', 'status=15', 'counter=65535', 'dest=258',
+                  'pvn=5', 'type=1', 'shf=0', 'dlen=0', 'dlen=65535', 'service=8', 'subtype=9', 'upd', 'dlen=1;upd',
+                  'upd;dlen=1', 'type=1;shf=0;upd', 'counter=1;counter=256', 'apid=2048', 'scount=16384', 'status=16',
+                  'status=255;status=1', 'pvn=8', 'pvn=8;status=16', 'status=16;pvn=8', 'version=0', 'version=1;upd',
+                  'version=1;version=2'):
+        yield f'create 0,1,0,1,3,2,77 2,3,4,5,6,7 {time} 0 1 0A0B {edits} {zeros(total)}'
+
+
+def tm_orders(_, form):
+    """Each fault that a creation or a reservation can have, alone and with each other."""
+    faults = ['time', 'pvn', 'apid', 'scount', 'status', 'room', 'version']
+    for chosen in itertools.chain.from_iterable(itertools.combinations(faults, count) for count in (1, 2)):
+        sp = row([8 * ('pvn' in chosen), 0, 1, 2048 * ('apid' in chosen), 3, 16384 * ('scount' in chosen), 0])
+        fields = row([1 if 'version' in chosen else 2, 16 if 'status' in chosen else 15, 17, 2, 3, 4])
+        buffer = zeros(form.start + ('room' not in chosen) + 1)
+        for length in (6, 8) if 'time' in chosen else (7,):
+            time = text(clock(length))
+            yield from (f'create {sp} {fields} {time} {set_length} 1 - - {buffer}' for set_length in '10')
+            yield f'reserve {sp} {fields} {time} 0 1 - f {buffer}'
+
+
+def tm_reservations(rng, form):
+    time, buffer = text(clock(7)), text(rng.randbytes(form.start + 6))
+    for has, finish, fill in itertools.product('01', 'fnc', ('-', '0A0B0C')):
+        yield f'reserve 7,1,0,2047,0,16383,9 2,15,255,255,65535,256 {time} 3 {has} {fill} {finish} {buffer}'
+    # Lengths that there is no room for, and lengths that fit no machine size.
+    for data_len, has in ((65520, 1), (65521, 1), (MACHINE - 22, 1), (MACHINE - 21, 1), (MACHINE - 20, 0),
+                          (MACHINE - 19, 0), (MACHINE, 1)):
+        yield f'reserve {TM_SP} {PONG} {time} {data_len} {has} - f {zeros(3)}'
+    for fields, length in (PONG, 8), ('2,16,17,2,3,4', 7), ('0,1,17,2,3,4', 7):
+        yield f'reserve {TM_SP} {fields} {text(clock(length))} {MACHINE} 1 - f {zeros(3)}'
+
+
+def tm_fields(rng):
+    """Each field of both headers at its edges, written and read, and over them, at one time length after the other."""
+    lengths = itertools.cycle(TIME_LENGTHS)
+
+    def headers():
+        return [rng.randint(0, top) for top in SP_WIDTHS], [2, *(rng.randint(0, top) for top in TM_WIDTHS[1:])]
+
+    def create(sp, fields, set_length):
+        length = next(lengths)
+        return (f'in t{length} create {row(sp)} {row(fields)} {text(rng.randbytes(length))} {set_length} 1 0A0B0C - '
+                f'{text(rng.randbytes(18 + length))}')
+
+    def octets(length, sp, fields, stated):
+        """A sealed packet with these fields as they stand; its length is right unless another is stated."""
+        form, data = telemetry(length), rng.randbytes(3)
+        head = Sp(*sp if stated else with_field(sp, 6, form.start + len(data) + 2 - 7))
+        return text(sealed(head.octets() + Tm(*fields).at(rng.randbytes(length)).octets(form) + data))
+
+    def readings(sp, fields, at=None):
+        """Packets with these fields; what is judged has the first three of a report, but for that at `at`."""
+        report = [value if place == at else right for place, (value, right) in enumerate(zip(sp, (0, 0, 1)))]
+        for way, first in ('read new', sp[:3]), ('read nocrc', sp[:3]), ('strict', report):
+            length = next(lengths)
+            yield f'in t{length} {way} {octets(length, [*first, *sp[3:]], fields, at == 6)}'
+
+    for at, top in enumerate(SP_WIDTHS):
+        for value in edges(top):
+            sp, fields = headers()
+            sp = with_field(sp, at, value)
+            yield create(sp, fields, value % 2)
+            yield from readings(sp, fields, at)
+    over = {1: (16, 255)}                                 # place in the row, values over the width
+    for at, top in enumerate(TM_WIDTHS):
+        middle = (255, 256) if top == 65535 else ()
+        for value in (*edges(top), *middle, *over.get(at, ())):
+            sp, fields = headers()
+            fields = with_field(fields, at, value)
+            yield create(sp, fields, 1)
+            if value in (16, 256) or at == 0:
+                length = next(lengths)
+                yield (f'in t{length} reserve {row(sp)} {row(fields)} {text(rng.randbytes(length))} 1 1 '
+                       f'{text(rng.randbytes(1))} f {text(rng.randbytes(17 + length))}')
+            if value <= top:
+                yield from readings(sp, fields)
+
+
+def tm_limits():
+    """The largest packet and one octet more; without a buffer the answer is short."""
+    data = bytes(range(256)) * 256
+    for length in TIME_LENGTHS:
+        for size, buffer in (65527 - length, zeros(LIMIT) if length == 16 else '-'), (65528 - length, '-'):
+            yield f'in t{length} create {TM_SP} {PONG} {text(clock(length))} 1 1 {text(data[:size])} - {buffer}'
+    largest = text(tm(telemetry(16), data[:65511]))
+    yield from (f'in t16 {way} {largest}' for way in ('read new', 'strict'))
+    yield f'in t0 create {TM_SP} {PONG} - 0 1 {text(data[:65528])} - -'           # no limit where the length stands
+    time, data = text(clock(7)), zeros(65521)
+    yield f'in t7 create {TM_SP} 2,16,17,2,3,4 {time} 1 1 {data} - -'             # 7 stands before 6, and 14 before both
+    yield f'in t7 create {TM_SP} 2,16,17,2,3,4 {time}A7 1 1 {data} - -'
+    yield f'in t7 reserve {TM_SP} {PONG} {time} 65520 1 - n {zeros(LIMIT)}'
+    yield f'in t7 reserve {TM_SP} 1,1,17,2,3,4 {time} 65521 1 - f {zeros(LIMIT + 1)}'     # 6 stands before 3
+
+
+def tm_grammar():
+    """What follows `in tN`. A bad field stands before a time length that is none."""
+    yield from ('in t', 'in t ', 'in t7', 'in t7 ', 'in t strict -', 'in t7 strict', 'in t7 strict - -', 'in t7 strict 0',
+                'in t17 strict 0', 'in t17 read crc -', 'in t7 t7 strict -', 'in t7 in t7 strict -', 'in t7 a8 strict -')
+    for form in ('t07', 't016', 't017', 't256', 't-1', 't+7', 't7.', 'tt7', 'T7', '7t', 'at7', 't00000000000000000007',
+                 't000000000000000000007'):
+        yield f'in {form} strict -'
+    for other in ('crc 00', 'sphread -', f'sphwrite {TM_SP} -', 'build - - -', 'split -', 'cmprr new - new -', 'consts',
+                  f'cmprc new - {TM_SP} {PONG} {text(clock(7))} 1 1 - -'):
+        yield f'in t7 {other}'
+    yield 'in t17 split -'
+    for fields in ('2,0,17,2,0', '2,0,17,2,0,0,0', '2,0,17,2,0,', ',0,17,2,0,0', '3,0,17,2,0,0', '02,0,17,2,0,0',
+                   '2,256,17,2,0,0', '2,0,256,2,0,0', '2,0,17,256,0,0', '2,0,17,2,65536,0', '2,0,17,2,0,65536',
+                   '2,0,17,2,0,-', '-', P5_SEC, '2,015,017,02,0000256,00'):
+        yield f'in t1 create {TM_SP} {fields} A0 1 1 - - -'
+    for time in ('0', 'a0', 'AG', '--', 'A0-', '', 'A0 A0', '0xA0', 'A0A', 'A0A1', '-'):
+        yield f'in t1 reserve {TM_SP} {PONG} {time} 0 1 - f 00'
+    yield f'in t0 create {TM_SP} {PONG} 1 1 - - -'        # no TIME
+    yield f'in t0 reserve {TM_SP} {PONG} 0 1 - f -'
+    for edits in ('ack=1', 'source=1', 'status=', 'status', 'status=256', 'status=1,2', 'counter=65536', 'dest=65536',
+                  'dest=-1', 'Dest=1', 'time=A0', 'msg_counter=1', 'upd=1', 'status=1;', 'status=0015;counter=00007'):
+        yield f'in t1 create {TM_SP} {PONG} A0 1 1 - {edits} -'
+    yield f'in t17 create {TM_SP} {PONG} A0 1 1 - status=256 -'
+    yield f'in a8 create {TM_SP} {PONG} A0 1 1 - - -'
+    yield f'in a8 create {TM_SP} 1,15,17,1,0 1 1 - status=1 -'
+    yield f'in t1 reserve {TM_SP} {PONG} A0 1 1 0A0B f 00'
+    yield f'in t17 reserve {TM_SP} {PONG} A0 1 1 0A0B f 00'
+    yield f'in t1 reserve {TM_SP} {PONG} A0 0 1 - x 00'
+    yield f'in t1 reserve {TM_SP} {PONG} A0 18446744073709551616 1 - f 00'
+
+
 FILES = {'crc': crc_requests, 'header': header_requests, 'write': write_requests, 'limits': limits_requests,
-         'read': read_requests, 'strict': strict_requests, 'grammar': grammar_requests, 'pus_a': pus_a_requests}
+         'read': read_requests, 'strict': strict_requests, 'grammar': grammar_requests, 'pus_a': pus_a_requests,
+         'telemetry': telemetry_requests}
 
 
 def main():

@@ -1,3 +1,4 @@
+pub mod Versions
 pub mod Frames
 pub mod Sealed
 pub mod Octets
@@ -5,3 +6,5 @@ pub mod Rules
 pub mod Determined
 pub mod Pieces
 pub mod Checksums
+pub mod After
+pub mod RoundTrip

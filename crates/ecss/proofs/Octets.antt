@@ -8,7 +8,8 @@ use lib.ListN.{length, getD, drop, drop-of-length-le}
 use lib.Seq.{drop-cons}
 use lib.Dec.{eqb}
 use borrow.Author.Tests.{eq-eqb, ne-eqb, eqb-true}
-use Rattle.ecss.specs.Frame.{sameOctets}
+use Rattle.space_packet.specs.Answer.{Answer, gives, refuses}
+use Rattle.ecss.specs.Frame.{sameOctets, isRead, sameRead}
 
 same-equal : (s t : List ℕ) → sameOctets s t ≡ true → s ≡ t
 unfolding sameOctets
@@ -46,3 +47,27 @@ same-stop s t i h k e = same-turn s t i h k ∙ ap (λ (b : Bool). b && sameOcte
 pub same-end : (s t : List ℕ) (i : ℕ) → length s ≤ i → length t ≤ i → sameOctets (drop i s) (drop i t) ≡ true
 unfolding sameOctets
 same-end s t i h k = ap₂ sameOctets (drop-of-length-le s h) (drop-of-length-le t k)
+
+-- ---- packets that were read, compared
+
+is-read : {A : Type 0} (a : Answer A) → (isRead a ≡ true) ↔ ((r : A) × (a ≡ gives r))
+is-read (refuses e) = (λ p. absurd (false≢true p), λ k. ap isRead (k .1))
+is-read (gives r) = (λ p. (r, refl), λ k. refl)
+
+-- what two readers that are equal read
+pub record ReadAlike {A : Type 0} (a c : Answer A) (s t : List ℕ) : Type 0 where
+  pub one : (r : A) × (a ≡ gives r)
+  pub other : (r : A) × (c ≡ gives r)
+  pub octets-equal : s ≡ t
+
+-- by their raw octets
+pub same-read : {A : Type 0} (a c : Answer A) (s t : List ℕ) → (sameRead a c s t ≡ true) ↔ ReadAlike a c s t
+same-read a c s t = (
+  λ p.
+      let h = and-eq-true-iff (isRead a) _ .0 p in
+      let k = and-eq-true-iff (isRead c) _ .0 (h .1) in
+      record { one = is-read a .0 (h .0); other = is-read c .0 (k .0); octets-equal = same-octets s t .0 (k .1) },
+  λ k.
+      ap₂ (λ (x y : Bool). x && (y && sameOctets s t)) (is-read a .1 (k .one)) (is-read c .1 (k .other))
+      ∙ same-octets s t .1 (k .octets-equal),
+)

@@ -1,5 +1,5 @@
 -- The frame of a packet, over `start`, the octet at which its data starts: 11 for a PUS-C telecommand.
-use Prim.Native.Nat.{ℕ, _+_, _-_, _<_}
+use Prim.Native.Nat.{ℕ, _+_, _-_, _≤_, _<_}
 use mathlib.Core.Path.{_≡_}
 use mathlib.Core.Bool.{Bool, true, false, not, _&&_}
 use mathlib.Core.List.{List, [], _∷_, _++_}
@@ -8,6 +8,8 @@ use lib.Dec.{ltb, eqb}
 use Rattle.space_packet.specs.Bits.{be16, word}
 use Rattle.space_packet.specs.Answer.{Numbers, Answer, Passed, refusal, gives, refuses, refuseIf, _then_}
 use Rattle.crc_register.specs.Crc.{crcOf}
+use Rattle.ecss.specs.declared.Crc16.{Crc16}
+use Rattle.ecss.specs.declared.Crc16.the-variants.{Some, None}
 
 -- numbers that are octets
 abbrev pub Octets : List ℕ → Type 0
@@ -86,6 +88,28 @@ pub record BothChecksums (s : List ℕ) (n : ℕ) (e : Numbers) : Type 0 where
 abbrev pub Told : List ℕ → Numbers → Type 0
 Told s e = e .number ≡ 4 → BothChecksums s (statedOf s) e
 
+-- the same behind a check that comes before all others
+unfoldable pub frameAfter : Passed → ℕ → List ℕ → Bool → Answer ℕ
+frameAfter first start s b = first then λ _. frameOf start s b
+
+unfoldable pub checkedAfter : Passed → ℕ → List ℕ → Answer ℕ
+checkedAfter first start s = first then λ _. checkedOf start s
+
+-- octets that hold a packet of n octets, where that check passes
+pub record Framed (first : Passed) (start : ℕ) (b : Bool) (s : List ℕ) (n : ℕ) : Type 0 where
+  pub good : first ≡ gives tt
+  pub room : start + trailer b ≤ n
+  pub fits : n ≤ length s
+
+-- the checksum of a packet of n octets, where it is taken
+abbrev pub crcTaken : Bool → List ℕ → ℕ → Crc16
+crcTaken true s n = Some (storedOf s n)
+crcTaken false s n = None
+
+abbrev pub hasCrc : Crc16 → Bool
+hasCrc (Some n) = true
+hasCrc None = false
+
 -- the packet that is handed out, and its data, without a copy; where it is refused, the empty part
 abbrev pub rawPart : Answer ℕ → List ℕ → List ℕ
 rawPart (refuses e) s = []
@@ -102,3 +126,11 @@ sameOctets [] [] = true
 sameOctets [] (y ∷ t) = false
 sameOctets (x ∷ s) [] = false
 sameOctets (x ∷ s) (y ∷ t) = eqb x y && sameOctets s t
+
+-- two packets that were read, by their raw octets s and t only; no, where either read is refused
+abbrev pub isRead : {A : Type 0} → Answer A → Bool
+isRead (refuses e) = false
+isRead (gives r) = true
+
+abbrev pub sameRead : {A : Type 0} → Answer A → Answer A → List ℕ → List ℕ → Bool
+sameRead a c s t = isRead a && (isRead c && sameOctets s t)

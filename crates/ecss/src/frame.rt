@@ -1,9 +1,12 @@
 // The frame of a packet, over the octet at which its data starts: its length checks, its checksum, and the parts handed out.
 ghost use mathlib.Core.Path.{_≡_};
 ghost use lib.ListN.{take};
-ghost use Rattle.space_packet.specs.Answer.{sizeAnswer};
-ghost use Rattle.ecss.specs.Frame.{trailer, frameOf, checkedOf, rawPart, dataPart, sameOctets};
+ghost use Rattle.space_packet.specs.Answer.{checkAnswer, sizeAnswer};
+ghost use Rattle.ecss.specs.Frame.{trailer, frameOf, checkedOf, frameAfter, checkedAfter, crcTaken, rawPart, dataPart, sameOctets};
+ghost use Rattle.ecss.specs.Kind.{secondaryOf};
+use crate::Crc16;
 use space_packet::ByteConversionError;
+use space_packet::CCSDS_HEADER_LEN;
 use space_packet::CheckResult;
 use space_packet::PusError;
 use space_packet::SizeResult;
@@ -50,6 +53,16 @@ pub fn front(s: &[u8], n: usize) -> &[u8]
     &s[..n]
 }
 
+// The octets of a secondary header of `size` octets in a packet; fewer where the packet is shorter.
+pub fn sec_header_part(packet: &[u8], size: usize) -> &[u8]
+    ensures { λ r. ⌜ now r ≡ secondaryOf size (now (packet .entry)) ⌝ }
+{
+    if packet.len() < CCSDS_HEADER_LEN {
+        return &packet[..0];
+    }
+    front(&packet[CCSDS_HEADER_LEN..], size)
+}
+
 // All reader checks with checksum.
 pub fn checked(s: &[u8], start: usize) -> SizeResult
     ensures { λ r. ⌜ sizeAnswer r ≡ checkedOf start (now (s .entry)) ⌝ }
@@ -68,11 +81,44 @@ pub fn checked(s: &[u8], start: usize) -> SizeResult
     }
 }
 
-// The packet, as a part of the octets; the empty part where it is refused.
-pub fn raw_part(s: &[u8], start: usize, has_checksum: bool) -> &[u8]
-    ensures { λ r. ⌜ now r ≡ rawPart (frameOf start (now (s .entry)) «has_checksum») (now (s .entry)) ⌝ }
+// The reader's length checks behind a check that comes before all others.
+pub fn frame_after(first: CheckResult, s: &[u8], start: usize, has_checksum: bool) -> SizeResult
+    ensures { λ r. ⌜ sizeAnswer r ≡ frameAfter (checkAnswer first) start (now (s .entry)) «has_checksum» ⌝ }
 {
-    let f = frame_of(s, start, has_checksum);
+    match first {
+        CheckResult::Err(e) => SizeResult::Err(e),
+        CheckResult::Ok => frame_of(s, start, has_checksum),
+    }
+}
+
+// All reader checks with checksum behind it.
+pub fn checked_after(first: CheckResult, s: &[u8], start: usize) -> SizeResult
+    ensures { λ r. ⌜ sizeAnswer r ≡ checkedAfter (checkAnswer first) start (now (s .entry)) ⌝ }
+{
+    match first {
+        CheckResult::Err(e) => SizeResult::Err(e),
+        CheckResult::Ok => checked(s, start),
+    }
+}
+
+// The checksum that a packet of `total` octets stores, where it is taken.
+pub fn crc_taken(s: &[u8], total: usize, has_checksum: bool) -> Crc16
+    ensures { λ r. ⌜ r ≡ crcTaken «has_checksum» (now (s .entry)) total ⌝ }
+{
+    if !has_checksum {
+        return Crc16::None;
+    }
+    if total < 2 {
+        return Crc16::Some(space_packet::word_at(s, 0));
+    }
+    Crc16::Some(space_packet::word_at(s, total - 2))
+}
+
+// The packet, as a part of the octets; the empty part where it is refused.
+pub fn raw_part(first: CheckResult, s: &[u8], start: usize, has_checksum: bool) -> &[u8]
+    ensures { λ r. ⌜ now r ≡ rawPart (frameAfter (checkAnswer first) start (now (s .entry)) «has_checksum») (now (s .entry)) ⌝ }
+{
+    let f = frame_after(first, s, start, has_checksum);
     match f {
         SizeResult::Err(_) => &s[..0],
         SizeResult::Ok(total) => front(s, total),
@@ -87,10 +133,10 @@ pub fn trailer_len(has_checksum: bool) -> usize
 }
 
 // The packet's data, up to the checksum; the empty part where it is refused.
-pub fn data_part(s: &[u8], start: usize, has_checksum: bool) -> &[u8]
-    ensures { λ r. ⌜ now r ≡ dataPart start «has_checksum» (frameOf start (now (s .entry)) «has_checksum») (now (s .entry)) ⌝ }
+pub fn data_part(first: CheckResult, s: &[u8], start: usize, has_checksum: bool) -> &[u8]
+    ensures { λ r. ⌜ now r ≡ dataPart start «has_checksum» (frameAfter (checkAnswer first) start (now (s .entry)) «has_checksum») (now (s .entry)) ⌝ }
 {
-    let f = frame_of(s, start, has_checksum);
+    let f = frame_after(first, s, start, has_checksum);
     match f {
         SizeResult::Err(_) => &s[..0],
         SizeResult::Ok(total) => {

@@ -4,7 +4,7 @@ ghost use mathlib.Core.Path.{_≡_};
 ghost use Prim.Native.Nat.{ℕ, _<_};
 ghost use Rattle.crc_register.specs.Crc.{run, octetBits};
 ghost use Rattle.space_packet.specs.Answer.{checkAnswer, numbersOf};
-ghost use Rattle.ecss.specs.Version.{versionNumber, versionAnswer, versionOf, messageType, defaultConfig};
+ghost use Rattle.ecss.specs.Version.{versionNumber, versionAnswer, versionOf, versionIs, messageType, defaultConfig};
 ghost use Rattle.ecss.specs.Frame.{verifies, verified};
 ghost use Rattle.ecss.specs.Kind.{pusRule};
 pub use space_packet::ByteConversionError;
@@ -48,6 +48,17 @@ impl PusVersion {
             2 => PusVersionResult::Ok(PusVersion::PusC),
             _ => PusVersionResult::Err(PusError::VersionNotSupported(value)),
         }
+    }
+
+    // What a write asks: 3 for another version than its own.
+    pub fn check(self, own: PusVersion) -> CheckResult
+        ensures { λ r. ⌜ checkAnswer r ≡ versionIs own self ⌝ }
+    {
+        let number = self.raw_value();
+        if number != own.raw_value() {
+            return CheckResult::Err(PusError::VersionNotSupported(number));
+        }
+        CheckResult::Ok
     }
 }
 

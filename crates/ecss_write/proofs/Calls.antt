@@ -1,27 +1,46 @@
 -- From the calls over encoded octets to a kind of packet: what an edition's functions cite.
-use Prim.Native.Nat.{ℕ, _+_, _-_}
+use Prim.Native.Nat.{ℕ, _+_, _-_, _≤_}
 use mathlib.Core.Path.{_≡_, refl, sym, ap, ap₂, _∙_}
-use mathlib.Core.Bool.{Bool}
+use mathlib.Core.Bool.{Bool, true, false}
 use mathlib.Core.List.{List, [], _++_, append-assoc, append-nil}
-use lib.ListN.{length}
-use Rattle.space_packet.specs.Answer.{Numbers, Answer, Passed, gives, refuses, _then_, setIf, checkAnswer}
+use native.Mathlib.Omega.{arith}
+use lib.ListN.{length, take}
+use lib.Seq.{length-take-le, take-at}
+use Rattle.space_packet.specs.Answer.{Answer, Passed, Kept, gives, refuses, _then_, setIf, checkAnswer}
 use Rattle.space_packet.specs.Header.{headerOctets, headerCheck, leftBy}
 use Rattle.space_packet.specs.Wrote.{Wrote}
 use Rattle.space_packet.specs.declared.SpacePacketHeader.{SpacePacketHeader}
 use Rattle.space_packet.specs.declared.SizeResult.{SizeResult}
-use Rattle.space_packet.proofs.Answers.{then-gives, gives-then, refuses-then}
+use Rattle.space_packet.proofs.Answers.{then-gives, then-of, set-in, left-written}
 use Rattle.ecss.specs.Frame.{trailer, closed}
 use Rattle.ecss.specs.Kind.{contentOf}
-use Rattle.ecss_write.specs.Write.{totalFor, Asked, asksAnswer, asked, askedBy, writeWith, bareWith, reserveWith, ownWith, fieldWith, afreshWith, withLength, headedAt}
+use Rattle.ecss.specs.declared.Crc16.the-variants.{Some, None}
+use Rattle.ecss_write.specs.Write.{totalFor, Asked, asksAnswer, asked, askedBy, writeWith, bareWith, putWith, putOctets, reserveWith, ownWith, checksumWith, fieldWith, madeWith, afreshWith, withLength, keptBy, headedAt}
 use Rattle.ecss_write.specs.declared.packet.Asks.{Asks}
 use Rattle.ecss_write.proofs.Written.{write-by-room, reserve-by-room, writes, reserves}
-use Rattle.ecss_write.specs.Writer.{Writer, startBy, askedOf, contentBy, octetsBy, asKind, checkBy, newBy, afreshBy, writeBy, bareBy, ownBy, reserveBy, headBy, headedBy}
+use Rattle.ecss_write.specs.Writer.{Writer, startBy, askedOf, contentBy, octetsBy, asKind, checkBy, newBy, afreshBy, writeBy, bareBy, PutWrote, ownBy, reserveBy, headBy, headedBy}
 
 -- what an edition hands over: the three checks, and the octets s of its secondary header, which are such where it is not refused
 pub record Hands {H : Type 0} (w : Writer H) (x : H) (a : Asks) (s : List ℕ) : Type 0 where
   pub asks-is : asksAnswer a ≡ askedOf w x
   pub sized : w .first x ≡ gives tt → length s ≡ w .kind .size
   pub coded : w .first x ≡ gives tt → w .fields x ≡ gives tt → w .version x ≡ gives tt → s ≡ w .kind .enc x
+
+-- so it hands over the octets l, as many of s as its secondary header has, where writing the header left s in the room z with the
+-- answer o
+module _ {H : Type 0} (w : Writer H) (x : H) (z s l : List ℕ) (n : ℕ) (o : Answer ℕ)
+    (room : w .first x ≡ gives tt → w .kind .size ≤ length s) (sizes : w .first x ≡ gives tt → length (w .kind .enc x) ≡ w .kind .size)
+    (passes : w .first x ≡ gives tt → w .fields x ≡ gives tt → w .version x ≡ gives tt → o ≡ gives (w .kind .size))
+    (left : s ≡ leftBy o (w .kind .enc x) z) (en : n ≡ w .kind .size) (el : l ≡ take n s) where
+  sized-by : w .first x ≡ gives tt → length l ≡ w .kind .size
+  sized-by p = ap length el ∙ length-take-le n s (omega (arith, room p, en)) ∙ en
+
+  coded-as : w .first x ≡ gives tt → w .fields x ≡ gives tt → w .version x ≡ gives tt → l ≡ w .kind .enc x
+  coded-as p q v =
+      el ∙ ap₂ take en (left ∙ left-written _ _ _ _ (passes p q v)) ∙ take-at (w .kind .enc x) _ _ (sizes p)
+
+  pub hands-by : (a : Asks) → asksAnswer a ≡ askedOf w x → Hands w x a l
+  hands-by a p = record { asks-is = p; sized = sized-by; coded = coded-as }
 
 -- ---- where the first check refuses, the start of the data counts for nothing
 
@@ -81,7 +100,7 @@ module _ {H : Type 0} (w : Writer H) (h : SpacePacketHeader) (x : H) (a : Asks) 
   -- ---- the calls
 
   module _ (b : Bool) (d l m : List ℕ) (r : SizeResult) where
-    pub wrote : Wrote (writeWith (askedBy a h) (checkAnswer (a .version)) (6 + length s) b (length d) (length l)) (closed b (headerOctets h ++ s ++ d)) l r m
+    wrote : Wrote (writeWith (askedBy a h) (checkAnswer (a .version)) (6 + length s) b (length d) (length l)) (closed b (headerOctets h ++ s ++ d)) l r m
         → Wrote (writeBy w h x b (length d) (length l)) (octetsBy w h x b d) l r m
     wrote u =
         let e = write-is b (length d) (length l) in
@@ -92,7 +111,7 @@ module _ {H : Type 0} (w : Writer H) (h : SpacePacketHeader) (x : H) (a : Asks) 
               ∙ left-same _ _ _ l (λ n p. ap (closed b) (content-is d (write-coded b (length d) (length l) n p)));
         }
 
-    pub wrote-bare : Wrote (bareWith (askedBy a h) (checkAnswer (a .version)) (6 + length s) b (length d) (length l)) (headerOctets h ++ s ++ d) l r m
+    wrote-bare : Wrote (bareWith (askedBy a h) (checkAnswer (a .version)) (6 + length s) b (length d) (length l)) (headerOctets h ++ s ++ d) l r m
         → Wrote (bareBy w h x b (length d) (length l)) (contentBy w h x d) l r m
     wrote-bare u =
         let e = ap (λ (z : Answer ℕ). z then λ total. gives (total - trailer b)) (write-is b (length d) (length l)) in
@@ -102,6 +121,12 @@ module _ {H : Type 0} (w : Writer H) (h : SpacePacketHeader) (x : H) (a : Asks) 
               u .left ∙ ap (λ (z : Answer ℕ). leftBy z (headerOctets h ++ s ++ d) l) e
               ∙ left-same (bareBy w h x b (length d) (length l)) _ _ l (λ n p. let q = then-gives (writeBy w h x b (length d) (length l)) (λ total. gives (total - trailer b)) n p in content-is d (write-coded b (length d) (length l) (q .0) (q .1)));
         }
+
+    pub put-wrote : (bare : Bool)
+        → Wrote (putWith bare (askedBy a h) (checkAnswer (a .version)) (6 + length s) b (length d) (length l)) (putOctets bare b (headerOctets h ++ s ++ d)) l r m
+        → PutWrote w bare h x b d l r m
+    put-wrote true = wrote-bare
+    put-wrote false = wrote
 
   own-same : (p v : Passed) (o q : List ℕ) → (p ≡ gives tt → v ≡ gives tt → o ≡ q) → ownWith p v o ≡ ownWith p v q
   unfolding ownWith _then_
@@ -150,23 +175,33 @@ module _ {H : Type 0} (w : Writer H) (h g : SpacePacketHeader) (x : H) (a : Asks
       ∙ ap₂ (λ (z : Answer ℕ) (q : SpacePacketHeader). headedAt (startBy w) z (contentBy w (withLength q (totalFor (startBy w) b n - 7)) x []) l) (kind-same (length l) eg) eg
 
 -- the octets are not wanted for the length, only where the data starts
-module _ {H : Type 0} (w : Writer H) (h g : SpacePacketHeader) (x : H) (a : Asks) (start : ℕ) (b : Bool) (n : ℕ)
+module _ {H : Type 0} (w : Writer H) (h : SpacePacketHeader) (x : H) (a : Asks) (start : ℕ) (b : Bool) (n : ℕ)
     (p : asksAnswer a ≡ askedOf w x) (z : w .first x ≡ gives tt → start ≡ startBy w) where
-  pub made : (set : Bool) (old : ℕ) → g ≡ asKind w h → fieldWith (askedBy a g) start b n set old ≡ fieldWith (checkBy w (asKind w h) x) (startBy w) b n set old
-  made set old eg =
-      (λ i. fieldWith (asked (p i .first) (eg i) (p i .fields)) start b n set old)
-      ∙ field-start (w .first x) _ start (startBy w) b n set old z
+  pub new-is : (set : Bool) → madeWith (askedBy a (asKind w h)) start b n set (asKind w h) ≡ newBy w h x b set n
+  new-is set =
+      then-of _ _ _
+      ((λ i. fieldWith (asked (p i .first) (asKind w h) (p i .fields)) start b n set (h .«data_len»))
+      ∙ field-start (w .first x) _ start (startBy w) b n set (h .«data_len») z)
 
   pub afresh : afreshWith (askedBy a h) start b n h ≡ afreshBy w h x b n
   afresh =
       (λ i. afreshWith (asked (p i .first) h (p i .fields)) start b n h)
       ∙ afresh-start (w .first x) _ start (startBy w) b n h z
 
-  -- construction, by the field that it sets or leaves
-  pub new-refused : (set : Bool) (e : Numbers) → g ≡ asKind w h → fieldWith (askedBy a g) start b n set (g .«data_len») ≡ refuses e → newBy w h x b set n ≡ refuses e
-  new-refused set e eg r = refuses-then _ _ _ (sym (made set (h .«data_len») eg) ∙ ap (λ (k : SpacePacketHeader). fieldWith (askedBy a g) start b n set (k .«data_len»)) (sym eg) ∙ r)
+-- ---- edits, and the checksum by the choice of one
 
-  pub new-gives : (set : Bool) (f : ℕ) (k : SpacePacketHeader) → g ≡ asKind w h → fieldWith (askedBy a g) start b n set (g .«data_len») ≡ gives f → k ≡ withLength g f → newBy w h x b set n ≡ gives k
-  new-gives set f k eg r ek =
-      gives-then _ _ f (sym (made set (h .«data_len») eg) ∙ ap (λ (y : SpacePacketHeader). fieldWith (askedBy a g) start b n set (y .«data_len»)) (sym eg) ∙ r)
-      ∙ ap gives (sym (ek ∙ ap (λ (y : SpacePacketHeader). withLength y f) eg))
+-- an edit, in the record that holds what it edits
+pub edit-in : {A B : Type 0} (f : A → B) (k : Kept A) (p : Passed) (old new : A) → k ≡ setIf p old new → keptBy f k ≡ setIf p (f old) (f new)
+edit-in f k p old new e = ap (keptBy f) e ∙ set-in f p old new
+
+-- what is kept, by what the check answers and what was set
+pub kept-by : {A : Type 0} (k : Kept A) (p q : Passed) (old new set : A) → k ≡ setIf p old new → p ≡ q → new ≡ set → k ≡ setIf q old set
+kept-by k p q old new set e f g = e ∙ ap₂ (λ z y. setIf z old y) f g
+
+pub checksum-none : (b : Bool) (own : Answer ℕ) → b ≡ false → checksumWith b own ≡ gives None
+unfolding checksumWith
+checksum-none b own e = ap (λ (z : Bool). checksumWith z own) e
+
+pub checksum-own : (b : Bool) (own : Answer ℕ) → b ≡ true → checksumWith b own ≡ (own then λ n. gives (Some n))
+unfolding checksumWith
+checksum-own b own e = ap (λ (z : Bool). checksumWith z own) e

@@ -15,19 +15,13 @@ use Rattle.space_packet.specs.Header.{leftBy, headerCheck, headerOctets, header
 use Rattle.space_packet.specs.Wrote.{Wrote}
 use Rattle.space_packet.specs.declared.SpacePacketHeader.{SpacePacketHeader}
 use Rattle.space_packet.specs.declared.SizeResult.{SizeResult}
-use Rattle.space_packet.proofs.Answers.{gives-inj, refuses-inj, never, refuse-no, refuse-gives, then-gives, gives-then, refuses-then, left-refused, left-written, kept-new, kept-old}
+use Rattle.space_packet.proofs.Answers.{gives-inj, refuse-no, refuse-gives, then-gives, gives-then, then-refused, refuses-then, left-refused, left-written, kept-new, kept-old}
 use Rattle.space_packet.proofs.RoundTrip.{length-headerOctets}
 use Rattle.ecss.specs.Frame.{trailer, sealed, closed}
 use Rattle.ecss_write.specs.Write.{totalFor, machineTotal, limited, lengthField, writeIn, asked, headedAt, writeWith, bareWith, reserveWith, ownWith, withLength, fieldWith, afreshWith}
 use Rattle.ecss_write.proofs.Parts.{mid-filled}
 use Rattle.ecss_write.proofs.Totals.{length-total, total-length, field-is, write-total, total-write}
 use Rattle.ecss_write.proofs.Over.{over-take, over-drop, over-more}
-
--- what only turns a value is refused where that value is
-pub turned-refused : {A B : Type 0} (a : Answer A) (f : A → B) (e : Numbers) → (a then λ x. gives (f x)) ≡ refuses e → a ≡ refuses e
-unfolding _then_
-turned-refused (refuses d) f e p = ap refuses (refuses-inj d e p)
-turned-refused (gives x) f e p = absurd (never (f x) e (sym p))
 
 -- ---- the length field
 
@@ -151,7 +145,7 @@ module _ (before after : Passed) (start : ℕ) (b : Bool) (n : ℕ) (o l : List 
       → Wrote (bareWith before after start b n (length l)) o l r y → Wrote (writeWith before after start b n (length l)) (closed b o) l r y
   refused-wrote y r e p w =
       let a = sym (w .answered) ∙ p in
-      let c = turned-refused (writeWith before after start b n (length l)) _ e a in
+      let c = then-refused (writeWith before after start b n (length l)) _ e a in
       record { answered = p ∙ sym c; left = w .left ∙ left-refused _ _ _ _ a ∙ sym (left-refused _ _ _ _ c) }
 
   -- one

@@ -11,10 +11,14 @@ use Rattle.space_packet.specs.Answer.{Answer, Passed, Kept, refusal, gives, ref
 use Rattle.space_packet.specs.Header.{headerCheck, headerOf, idFrom, withId}
 use Rattle.space_packet.specs.declared.SpacePacketHeader.{SpacePacketHeader}
 use Rattle.space_packet.specs.declared.PacketType.{PacketType}
-use Rattle.ecss.specs.Frame.{trailer, maxTotal}
+use Rattle.ecss.specs.Frame.{trailer, closed, maxTotal}
+use Rattle.ecss.specs.declared.Crc16.{Crc16}
+use Rattle.ecss.specs.declared.Crc16.the-variants.{Some, None}
 use Rattle.ecss_write.specs.declared.packet.Asks.{Asks}
 use Rattle.ecss_write.specs.declared.packet.CrcResult.{CrcResult}
 use Rattle.ecss_write.specs.declared.packet.CrcResult.the-variants as C
+use Rattle.ecss_write.specs.declared.packet.ChecksumResult.{ChecksumResult}
+use Rattle.ecss_write.specs.declared.packet.ChecksumResult.the-variants as K
 use Rattle.ecss_write.specs.declared.DataLenResult.{DataLenResult}
 use Rattle.ecss_write.specs.declared.DataLenResult.the-variants as D
 
@@ -58,6 +62,13 @@ writeWith before after start b n m =
 abbrev pub bareWith : Passed → Passed → ℕ → Bool → ℕ → ℕ → Answer ℕ
 bareWith before after start b n m = writeWith before after start b n m then λ total. gives (total - trailer b)
 
+-- either of them, and its octets
+abbrev pub putWith : Bool → Passed → Passed → ℕ → Bool → ℕ → ℕ → Answer ℕ
+putWith bare = pick bare bareWith writeWith
+
+abbrev pub putOctets : Bool → Bool → List ℕ → List ℕ
+putOctets bare b l = pick bare l (closed b l)
+
 -- reserving, which sets the length: 6 for the packet limit before what is asked last
 unfoldable pub reserveWith : Passed → Passed → ℕ → Bool → ℕ → ℕ → Answer ℕ
 reserveWith before after start b n m =
@@ -66,6 +77,10 @@ reserveWith before after start b n m =
 -- the checksum over all octets before it
 unfoldable pub ownWith : Passed → Passed → List ℕ → Answer ℕ
 ownWith before after content = before then λ _. after then λ _. gives (crcOf content)
+
+-- the checksum that is written: none, or that
+unfoldable pub checksumWith : Bool → Answer ℕ → Answer Crc16
+checksumWith b own = pick b (own then λ n. gives (Some n)) (gives None)
 
 -- ---- the header that is written
 
@@ -89,6 +104,10 @@ unfoldable pub afreshWith : Passed → ℕ → Bool → ℕ → SpacePacketHeade
 afreshWith before start b n h =
     setIf (before then λ _. lengthField start b n then λ _. gives tt) h (withLength h (totalFor start b n - 7))
 
+-- what an edit hands back, in the record f of what it edits
+abbrev pub keptBy : {A B : Type 0} → (A → B) → Kept A → Kept B
+keptBy f k = record { passed = k .passed; kept = f (k .kept) }
+
 -- what a reservation leaves: the headers at the front, or where it is refused what was there
 abbrev pub headedAt : ℕ → Answer ℕ → List ℕ → List ℕ → List ℕ
 headedAt start (gives n) head before = head ++ drop start before
@@ -110,3 +129,7 @@ askedBy a h = asked (checkAnswer (a .first)) h (checkAnswer (a .fields))
 abbrev pub crcAnswer : CrcResult → Answer ℕ
 crcAnswer (C.Ok n) = gives n
 crcAnswer (C.Err e) = refuses (numbersOf e)
+
+abbrev pub checksumAnswer : ChecksumResult → Answer Crc16
+checksumAnswer (K.Ok c) = gives c
+checksumAnswer (K.Err e) = refuses (numbersOf e)

@@ -8,10 +8,12 @@ use lib.ListN.{length}
 use Rattle.space_packet.specs.Answer.{Answer, Passed, Kept, gives}
 use Rattle.space_packet.specs.Fields.{isIdle}
 use Rattle.space_packet.specs.Header.{InRange}
+use Rattle.space_packet.specs.Wrote.{Wrote}
 use Rattle.space_packet.specs.declared.SpacePacketHeader.{SpacePacketHeader}
+use Rattle.space_packet.specs.declared.SizeResult.{SizeResult}
 use Rattle.ecss.specs.Frame.{closed, maxTotal}
 use Rattle.ecss.specs.Kind.{Kind, KindLaws, Packet, startOf, contentOf}
-use Rattle.ecss_write.specs.Write.{totalFor, Asked, asked, writeWith, bareWith, reserveWith, ownWith, asType, withLength, headedAt, madeWith, afreshWith}
+use Rattle.ecss_write.specs.Write.{totalFor, Asked, asked, writeWith, bareWith, putWith, putOctets, reserveWith, ownWith, asType, withLength, headedAt, madeWith, afreshWith}
 
 -- a kind with what its writers ask of the secondary header
 pub record Writer (H : Type 0) : Type 1 where
@@ -55,30 +57,35 @@ module _ {H : Type 0} (w : Writer H) where
   abbrev pub madeBy : SpacePacketHeader → List ℕ → SpacePacketHeader
   madeBy h d = withLength (asKind h) (startBy + length d + 2 - 7)
 
-  -- the first field over its width
+  -- what comes before all others, then the first field over its width
   abbrev pub checkBy : SpacePacketHeader → H → Passed
   checkBy h x = asked (w .first x) h (w .fields x)
 
-  -- construction, the header that it makes: 7, and 6 where it sets the length
+  -- construction, the header that it makes: what comes first, 7, and 6 where it sets the length
   abbrev pub newBy : SpacePacketHeader → H → Bool → Bool → ℕ → Answer SpacePacketHeader
   newBy h x b set n = madeWith (checkBy (asKind h) x) startBy b n set (asKind h)
 
-  -- the length set afresh: 7, 6
+  -- the length set afresh: what comes first, 7, 6
   abbrev pub afreshBy : SpacePacketHeader → H → Bool → ℕ → Kept SpacePacketHeader
   afreshBy h x b n = afreshWith (checkBy h x) startBy b n h
 
-  -- writing into a buffer of m octets: 7, 6 for the machine size, 1, 3; and without the checksum
+  -- writing into a buffer of m octets: what comes first, 7, 6 for the machine size, 1, 3; and without the checksum
   abbrev pub writeBy : SpacePacketHeader → H → Bool → ℕ → ℕ → Answer ℕ
   writeBy h x b n m = writeWith (checkBy h x) (w .version x) startBy b n m
 
   abbrev pub bareBy : SpacePacketHeader → H → Bool → ℕ → ℕ → Answer ℕ
   bareBy h x b n m = bareWith (checkBy h x) (w .version x) startBy b n m
 
-  -- the checksum over all octets before it: 7, 3
+  -- what either of them answers, and leaves of the buffer
+  abbrev pub PutWrote : Bool → SpacePacketHeader → H → Bool → List ℕ → List ℕ → SizeResult → List ℕ → Type 0
+  PutWrote bare h x b d before r after =
+      Wrote (putWith bare (checkBy h x) (w .version x) startBy b (length d) (length before)) (putOctets bare b (contentBy h x d)) before r after
+
+  -- the checksum over all octets before it: what comes first, 7, 3
   abbrev pub ownBy : SpacePacketHeader → H → List ℕ → Answer ℕ
   ownBy h x d = ownWith (checkBy h x) (w .version x) (contentBy h x d)
 
-  -- reserving: 7, 6 for the machine size, 1, 6 for the packet limit, 3; the answer is the total
+  -- reserving: what comes first, 7, 6 for the machine size, 1, 6 for the packet limit, 3; the answer is the total
   abbrev pub reserveBy : SpacePacketHeader → H → Bool → ℕ → ℕ → Answer ℕ
   reserveBy h x b n m = reserveWith (checkBy h x) (w .version x) startBy b n m
 

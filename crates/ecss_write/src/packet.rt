@@ -6,17 +6,20 @@ ghost use mathlib.Core.List.{_++_};
 ghost use Prim.Native.Nat.{_+_, _-_, _≤_};
 ghost use lib.ListN.{length, take, drop};
 ghost use Rattle.space_packet.specs.Answer.{gives, _then_, checkAnswer, sizeAnswer};
-ghost use Rattle.space_packet.specs.Header.{headerCheck, headerOctets, headerKept};
+ghost use Rattle.space_packet.specs.Header.{headerCheck, headerOctets, headerKept, spHeaderAnswer};
 ghost use Rattle.space_packet.specs.Wrote.{Wrote};
 ghost use Rattle.ecss.specs.Frame.{closed};
-ghost use Rattle.ecss_write.specs.Write.{totalFor, dataLenAnswer, writeIn, askedBy, writeWith, bareWith, reserveWith, ownWith, crcAnswer, asType, withLength, fieldWith, afreshWith, headedAt};
+ghost use Rattle.ecss.specs.declared.Crc16.the-variants.{Some};
+ghost use Rattle.ecss_write.specs.Write.{totalFor, dataLenAnswer, writeIn, askedBy, writeWith, bareWith, putWith, putOctets, reserveWith, ownWith, crcAnswer, checksumAnswer, asType, withLength, fieldWith, madeWith, afreshWith, headedAt};
 use crate::DataLenResult;
+use ecss::Crc16;
 use ecss::CreatorConfig;
 use space_packet::CheckResult;
 use space_packet::PacketType;
 use space_packet::PusError;
 use space_packet::SizeResult;
 use space_packet::SpHeader;
+use space_packet::SpHeaderResult;
 use space_packet::SpHeaderSet;
 
 // What a kind of packet asks of its secondary header: before all others, of its fields after the primary header's, and
@@ -29,6 +32,11 @@ pub struct Asks {
 
 pub enum CrcResult {
     Ok(u16),
+    Err(PusError),
+}
+
+pub enum ChecksumResult {
+    Ok(Crc16),
     Err(PusError),
 }
 
@@ -128,7 +136,7 @@ pub fn as_type(h: SpHeader, packet_type: PacketType) -> SpHeader
 }
 
 // The length field of that many octets of data, or where it is not set the header's.
-pub fn length_for(
+fn length_for(
     asks: Asks,
     h: SpHeader,
     start: usize,
@@ -149,12 +157,31 @@ pub fn length_for(
     }
 }
 
-pub fn with_length(h: SpHeader, data_len: u16) -> SpHeader
+fn with_length(h: SpHeader, data_len: u16) -> SpHeader
     ensures { λ r. ⌜ r ≡ withLength h «data_len» ⌝ }
 {
     let mut set = h;
     set.data_len = data_len;
     set
+}
+
+// The header that construction makes: of the type, with a secondary header, and with its length field set or left.
+pub fn made(
+    asks: Asks,
+    h: SpHeader,
+    packet_type: PacketType,
+    start: usize,
+    data_len: usize,
+    config: CreatorConfig,
+) -> SpHeaderResult
+    ensures { λ r. ⌜ spHeaderAnswer r ≡ madeWith (askedBy asks (asType «packet_type» h)) start (config .«has_checksum») «data_len» (config .«set_ccsds_len») (asType «packet_type» h) ⌝ }
+{
+    let header = as_type(h, packet_type);
+    let field = length_for(asks, header, start, data_len, config);
+    match field {
+        DataLenResult::Err(e) => SpHeaderResult::Err(e),
+        DataLenResult::Ok(n) => SpHeaderResult::Ok(with_length(header, n)),
+    }
 }
 
 // The header with the length field of that many octets of data, or the old one with the refusal.
@@ -204,7 +231,7 @@ fn put_data(start: usize, data: &[u8], buf: &mut [u8])
 }
 
 // The packet without its checksum, for which there still must be room.
-pub fn write_bare(
+fn write_bare(
     asks: Asks,
     h: SpHeader,
     sec: &[u8],
@@ -227,7 +254,7 @@ pub fn write_bare(
 }
 
 // The packet, over the first octets of the buffer.
-pub fn write(
+fn write(
     asks: Asks,
     h: SpHeader,
     sec: &[u8],
@@ -247,6 +274,24 @@ pub fn write(
             SizeResult::Ok(end)
         }
     }
+}
+
+// Either write.
+pub fn put(
+    asks: Asks,
+    h: SpHeader,
+    sec: &[u8],
+    data: &[u8],
+    has_checksum: bool,
+    bare: bool,
+    buf: &mut [u8],
+) -> SizeResult
+    ensures { λ r. ⌜ Wrote (putWith bare (askedBy asks h) (checkAnswer (asks .version)) (6 + length (now (sec .entry))) «has_checksum» (length (now («data» .entry))) (length (now (buf .entry)))) (putOctets bare «has_checksum» (headerOctets h ++ now (sec .entry) ++ now («data» .entry))) (now (buf .entry)) r (now (buf .exit)) ⌝ }
+{
+    if bare {
+        return write_bare(asks, h, sec, data, has_checksum, buf);
+    }
+    write(asks, h, sec, data, has_checksum, buf)
 }
 
 // The checksum over the headers and the data.
@@ -273,6 +318,16 @@ pub fn own_checksum(asks: Asks, h: SpHeader, sec: &[u8], data: &[u8]) -> CrcResu
                 }
             }
         }
+    }
+}
+
+// That checksum as one that is written.
+pub fn checksum_of(own: CrcResult) -> ChecksumResult
+    ensures { λ r. ⌜ checksumAnswer r ≡ (crcAnswer own then λ n. gives (Some n)) ⌝ }
+{
+    match own {
+        CrcResult::Err(e) => ChecksumResult::Err(e),
+        CrcResult::Ok(crc16) => ChecksumResult::Ok(Crc16::Some(crc16)),
     }
 }
 

@@ -15,12 +15,12 @@ use Rattle.ecss.specs.Frame.{trailer, closed}
 use Rattle.ecss_write.specs.Write.{totalFor, withLength}
 use Rattle.ecss.specs.Kind.{contentOf}
 use Rattle.reserve.specs.Reserve.{endOf, holdsIn, fillIn, filledBy, finishIn, finished}
-use Rattle.reserve.specs.declared.Reservation.{Reservation}
 use Rattle.reserve.proofs.Filled.{fill-by}
 use Rattle.reserve.proofs.Reserved.{in-holds}
 use Rattle.ecss_write.proofs.Over.{over-take, over-drop, over-length, over-more}
 use Rattle.ecss_write.proofs.Written.{reserves, write-given}
 use Rattle.ecss_write.specs.Writer.{Writer, WriterLaws, startBy, contentBy, octetsBy, asKind, newBy, writeBy, reserveBy, headBy, headedBy}
+use Rattle.exactness.specs.Demand3.{heldBy}
 use Rattle.exactness.proofs.Given.{checked, check-made, new-given}
 
 module _ {H : Type 0} (w : Writer H) (l : WriterLaws w) where
@@ -39,15 +39,12 @@ module _ {H : Type 0} (w : Writer H) (l : WriterLaws w) where
 
   -- ---- a buffer `before` in which a packet of the data d was reserved, filled in and finished
 
-  abbrev pub heldBy : Bool → ℕ → Reservation
-  heldBy b total = record { start = startBy w; total = total; «has_checksum» = b }
-
   module _ (h : SpacePacketHeader) (x : H) (b : Bool) (d before : List ℕ) (total : ℕ) where
     abbrev pub headed : List ℕ
     headed = headedBy w (reserveBy w h x b (length d) (length before)) (headBy w h x b (length d)) before
 
     abbrev pub filled : List ℕ
-    filled = filledBy (fillIn (startBy w) (heldBy b total) (length headed) (length d)) (startBy w) d headed
+    filled = filledBy (fillIn (startBy w) (heldBy w b total) (length headed) (length d)) (startBy w) d headed
 
     -- it was filled in whole, and finishing answers and leaves what the write of these headers does
     pub record AsWritten : Type 0 where
@@ -55,10 +52,10 @@ module _ {H : Type 0} (w : Writer H) (l : WriterLaws w) where
       pub made : newBy w h x b true (length d) ≡ gives header
       pub writes : writeBy w header x b (length d) (length before) ≡ gives total
       pub is : total ≡ totalFor (startBy w) b (length d)
-      pub fills : fillIn (startBy w) (heldBy b total) (length headed) (length d) ≡ gives (length d)
-      pub answers : finishIn (startBy w) (heldBy b total) (length filled) ≡ gives total
+      pub fills : fillIn (startBy w) (heldBy w b total) (length headed) (length d) ≡ gives (length d)
+      pub answers : finishIn (startBy w) (heldBy w b total) (length filled) ≡ gives total
       pub leaves :
-          leftBy (finishIn (startBy w) (heldBy b total) (length filled)) (finished (heldBy b total) filled) filled
+          leftBy (finishIn (startBy w) (heldBy w b total) (length filled)) (finished (heldBy w b total) filled) filled
           ≡ leftBy (writeBy w header x b (length d) (length before)) (octetsBy w header x b d) before
 
     pub reserved-agrees : length before ≤ 18446744073709551615 → reserveBy w h x b (length d) (length before) ≡ gives total → AsWritten
@@ -71,7 +68,7 @@ module _ {H : Type 0} (w : Writer H) (l : WriterLaws w) where
         let c = checked w l h x (p .0 .before-passed) in
         let fit = l .passed-fits x (c .0) (c .2) (p .0 .after-passed) in
         let t = withLength (asKind w h) (totalFor (startBy w) b (length d) - 7) in
-        let q = heldBy b total in
+        let q = heldBy w b total in
         let m = headed in
         let y = filled in
         let o = contentBy w t x [] in

@@ -4,3 +4,4 @@ pub mod Places
 pub mod Changed
 pub mod Given
 pub mod Agree
+pub mod Demand3

@@ -13,7 +13,7 @@ pub(crate) fn checksum(s: &[u8]) {
 }
 
 // verify DATA CCCC
-pub(crate) fn verify(v: [u64; 18], s: &[u8]) {
+pub(crate) fn verify(v: [u64; 20], s: &[u8]) {
     let w = fields::low16(v[fields::WORD]);
     let flags = [
         ecss::verify_crc16_ccitt_false_from_raw(s) as u64,

@@ -12,18 +12,20 @@ use tc_header::AckFlags;
 use tc_header::AckFlagsResult;
 use text::Value;
 
-// What a line says, in numbers: those of its fields from left to right, SP's before SEC's; then at these places the word of
-// a field, that of a second one, and how many octets its DATA and its BUF have.
-pub(crate) const WORD: usize = 14;
+// What a line says, in numbers: those of its fields from left to right, SP's before SEC's or TM's; then at these places the
+// word of a field, that of a second one, and how many octets its DATA, its BUF and its TIME have.
+pub(crate) const WORD: usize = 15;
 
-pub(crate) const SECOND: usize = 15;
+pub(crate) const SECOND: usize = 16;
 
-pub(crate) const DATA: usize = 16;
+pub(crate) const DATA: usize = 17;
 
-pub(crate) const BUF: usize = 17;
+pub(crate) const BUF: usize = 18;
+
+pub(crate) const TIME: usize = 19;
 
 // Whether a line has the fields that a form asks, a letter or a digit for each after the first; v gets what they say, a the
-// octets of DATA, b those of BUF.
+// octets of TIME and behind them those of DATA, b those of BUF.
 pub(crate) fn read(form: &[u8], line: &[u8], v: &mut [u64], a: &mut [u8], b: &mut [u8]) -> bool {
     if text::pieces(line, 32) != form.len() + 1 {
         return false;
@@ -37,34 +39,53 @@ pub(crate) fn read(form: &[u8], line: &[u8], v: &mut [u64], a: &mut [u8], b: &mu
     at < v.len()
 }
 
-// Reads one field: octets for `a` and `b`. Answers where the next number goes, the end of v once a field is bad.
+// Reads one field: octets for `a`, `b` and `x`. Answers where the next number goes, the end of v once a field is bad.
 fn field(form: u8, s: &[u8], v: &mut [u64], at: usize, a: &mut [u8], b: &mut [u8]) -> usize {
     match form {
-        97 => noted(text::octets(s, a), DATA, v, at),
+        97 => noted(octets_from(said(v, TIME), s, a), DATA, v, at),
         98 => noted(text::octets(s, b), BUF, v, at),
+        120 => noted(text::octets(s, a), TIME, v, at),
         _ => plain(form, s, v, at),
     }
 }
 
+fn said(v: &[u64], place: usize) -> u64 {
+    if place < v.len() {
+        return v[place];
+    }
+    0
+}
+
+// The octets of a field, behind those that are in a already.
+fn octets_from(from: u64, s: &[u8], a: &mut [u8]) -> Value {
+    let from = from as usize;
+    if a.len() <= from {
+        return Value::Bad;
+    }
+    text::octets(s, &mut a[from..])
+}
+
 // Numbers within these for a digit: SP's version number, type, secondary header flag, APID, sequence flags, sequence count,
-// length; SEC's version, acknowledgement flags, service, subtype, source; a flag, 8 bits, 16 bits, 64 bits.
+// length; SEC's version, acknowledgement flags, service, subtype, source; a flag, 8 bits, 16 bits, 64 bits; TM's version, time
+// reference status, service, subtype, counter, destination.
 fn plain(form: u8, s: &[u8], v: &mut [u64], at: usize) -> usize {
-    if form < 48 || 53 < form {
+    if form < 48 || 54 < form {
         return noted(word(form, s), place_of(form), v, at);
     }
     let most = text::piece(
-        b"255,1,1,65535,3,65535,65535 2,255,255,255,65535 1 255 65535 18446744073709551615",
+        b"255,1,1,65535,3,65535,65535 2,255,255,255,65535 1 255 65535 18446744073709551615 2,255,255,255,65535,65535",
         32,
         (form - 48) as usize,
     );
     numbers(s, most, v, at)
 }
 
-// CCCC for `c`, MODE for `m` and `n`, FIN for `z`, EDITS for `e`, SETTERS for `t`.
+// CCCC for `c`, MODE for `m` and `n`, FIN for `z`, EDITS for `e` and of telemetry for `f`, SETTERS for `t`.
 fn word(form: u8, s: &[u8]) -> Value {
     match form {
         99 => text::word(s),
         101 => items::edits(s),
+        102 => items::tm_edits(s),
         116 => items::setters(s),
         122 => among(s, b"f n c"),
         _ => among(s, b"new nt noverify nocrc"),
@@ -90,14 +111,16 @@ fn noted(said: Value, place: usize, v: &mut [u64], at: usize) -> usize {
     at
 }
 
-// The source width of a FORM: `a`, and a number of 8 bits.
-pub(crate) fn width(s: &[u8]) -> Value {
+// The letter of a FORM.
+pub(crate) fn form_letter(s: &[u8]) -> u8 {
     if s.len() == 0 {
-        return Value::Bad;
+        return 0;
     }
-    if s[0] != 97 {
-        return Value::Bad;
-    }
+    s[0]
+}
+
+// The number of 8 bits behind it.
+pub(crate) fn form_number(s: &[u8]) -> Value {
     within(text::part(s, 1, s.len()), b"255")
 }
 
@@ -179,7 +202,7 @@ pub(crate) fn low16(n: u64) -> u16 {
 }
 
 // The header of an SP, its APID and sequence count cut to their widths.
-pub(crate) fn header(v: [u64; 18]) -> SpHeader {
+pub(crate) fn header(v: [u64; 20]) -> SpHeader {
     SpHeader {
         version: low8(v[0]),
         packet_id: packet_id(v[1] % 2 * 4096 + v[2] % 2 * 2048 + v[3] % 2048),
@@ -231,7 +254,7 @@ pub(crate) fn check_ack(n: u64) -> CheckResult {
     }
 }
 
-fn check_cut(v: [u64; 18]) -> CheckResult {
+fn check_cut(v: [u64; 20]) -> CheckResult {
     let c = check_apid(v[3]);
     let CheckResult::Ok = c else {
         return c;
@@ -240,7 +263,7 @@ fn check_cut(v: [u64; 18]) -> CheckResult {
 }
 
 // SP's and SEC's fields, in their order.
-pub(crate) fn check_heads(v: [u64; 18]) -> CheckResult {
+pub(crate) fn check_heads(v: [u64; 20]) -> CheckResult {
     let h = header(v);
     let c = h.check();
     let CheckResult::Ok = c else {
@@ -254,7 +277,7 @@ pub(crate) fn check_heads(v: [u64; 18]) -> CheckResult {
 }
 
 // A version number over its width is left for the call that is asked, unless a later field is over its own.
-pub(crate) fn check_sp(v: [u64; 18]) -> CheckResult {
+pub(crate) fn check_sp(v: [u64; 20]) -> CheckResult {
     let c = check_cut(v);
     let CheckResult::Ok = c else {
         return check_heads(v);

@@ -34,12 +34,11 @@ fn shown(s: &[u8], h: SpHeader) {
 }
 
 // sphwrite SP BUF
-pub(crate) fn write(v: [u64; 18], buf: &mut [u8]) {
-    show::size(b"ok:", written(v, buf));
-    show::octets(buf);
+pub(crate) fn write(v: [u64; 20], buf: &mut [u8]) {
+    show::written(written(v, buf), buf);
 }
 
-fn written(v: [u64; 18], buf: &mut [u8]) -> SizeResult {
+fn written(v: [u64; 20], buf: &mut [u8]) -> SizeResult {
     let c = fields::check_sp(v);
     if let CheckResult::Err(e) = c {
         return SizeResult::Err(e);
@@ -49,7 +48,7 @@ fn written(v: [u64; 18], buf: &mut [u8]) -> SizeResult {
 }
 
 // ack N
-pub(crate) fn ack(v: [u64; 18]) {
+pub(crate) fn ack(v: [u64; 20]) {
     let r = AckFlags::new_with_raw_value(fields::low8(v[0]));
     match r {
         AckFlagsResult::Err(e) => show::refusal(e),

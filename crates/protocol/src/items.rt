@@ -3,12 +3,17 @@ use crate::fields;
 use space_packet::CheckResult;
 use text::Value;
 
-// The first 13 names edit a creator, those from the eighth on set a builder.
-const EDITS_END: usize = 13;
+// The first 14 names edit a creator of telemetry, those from the fourth to the sixteenth one of telecommands, and those from
+// the eleventh on set a builder.
+const TM_EDITS_END: usize = 14;
 
-const SETTERS: usize = 7;
+const EDITS: usize = 3;
 
-const SETTERS_END: usize = 18;
+const EDITS_END: usize = 16;
+
+const SETTERS: usize = 10;
+
+const SETTERS_END: usize = 21;
 
 // How many items there are; `-` is none.
 pub(crate) fn count(s: &[u8]) -> usize {
@@ -23,7 +28,7 @@ pub(crate) fn item(s: &[u8], k: usize, v: &mut [u64; 4]) -> usize {
     let item = text::piece(s, 59, k);
     let name = fields::place(
         text::piece(item, 61, 0),
-        b"dlen pvn sflags type shf version upd apid scount source ack service subtype pid psc mtid cksum data",
+        b"status counter dest dlen pvn sflags type shf version upd apid scount service subtype source ack pid psc mtid cksum data",
     );
     if values(name, item, v) {
         return name;
@@ -34,15 +39,15 @@ pub(crate) fn item(s: &[u8], k: usize, v: &mut [u64; 4]) -> usize {
 // Whether an item has what its name asks: `upd` nothing, `data` 1, the others numbers within theirs here.
 fn values(name: usize, item: &[u8], v: &mut [u64; 4]) -> bool {
     let parts = text::pieces(item, 61);
-    if name == 6 {
+    if name == 9 {
         return parts == 1;
     }
     let s = text::piece(item, 61, 1);
-    if parts != 2 || name == 17 && !check::same(s, b"1") {
+    if parts != 2 || name == 20 && !check::same(s, b"1") {
         return false;
     }
     let most = text::piece(
-        b"65535 255 3 1 1 2 - 65535 65535 65535 255 255 255 1,1,65535 3,65535 255,255 1 1",
+        b"255 65535 65535 65535 255 3 1 1 2 - 65535 65535 255 255 65535 255 1,1,65535 3,65535 255,255 1 1",
         32,
         name,
     );
@@ -50,7 +55,11 @@ fn values(name: usize, item: &[u8], v: &mut [u64; 4]) -> bool {
 }
 
 pub(crate) fn edits(s: &[u8]) -> Value {
-    good(s, 0, EDITS_END)
+    good(s, EDITS, EDITS_END)
+}
+
+pub(crate) fn tm_edits(s: &[u8]) -> Value {
+    good(s, 0, TM_EDITS_END)
 }
 
 pub(crate) fn setters(s: &[u8]) -> Value {
@@ -67,7 +76,7 @@ fn good(s: &[u8], from: usize, end: usize) -> Value {
         if name < from || end <= name {
             return Value::Bad;
         }
-        if name == 17 {
+        if name == 20 {
             taken = 1;
         }
         k += 1;
@@ -83,11 +92,11 @@ fn name(s: &[u8], k: usize) -> usize {
 // 7 where a number of an item is over the width of its field.
 pub(crate) fn check(name: usize, v: [u64; 4]) -> CheckResult {
     match name {
-        7 => fields::check_apid(v[0]),
-        8 => fields::check_count(v[0]),
-        10 => fields::check_ack(v[0]),
-        13 => fields::check_apid(v[2]),
-        14 => fields::check_count(v[1]),
+        10 => fields::check_apid(v[0]),
+        11 => fields::check_count(v[0]),
+        15 => fields::check_ack(v[0]),
+        16 => fields::check_apid(v[2]),
+        17 => fields::check_count(v[1]),
         _ => CheckResult::Ok,
     }
 }

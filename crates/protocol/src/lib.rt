@@ -6,6 +6,7 @@ mod header;
 mod items;
 mod read;
 mod show;
+mod telemetry;
 mod verdict;
 mod write;
 
@@ -23,21 +24,35 @@ fn answer(line: &[u8], a: &mut [u8], b: &mut [u8]) {
     show::say(b"\n");
 }
 
-// Requests are of PUS C, unless `in FORM` comes before them.
+// What is asked of: telecommands of a form, or telemetry with a time of so many octets.
+enum Form {
+    Tc(TcForm),
+    Tm(u8),
+}
+
+// Requests are of telecommands of PUS C, unless `in FORM` comes before them.
 fn reply(line: &[u8], a: &mut [u8], b: &mut [u8]) {
     if check::same(text::piece(line, 32, 0), b"in") {
         return reply_in(text::piece(line, 32, 1), behind(behind(line)), a, b);
     }
-    reply_to(TcForm::PUS_C, kind(line), line, a, b)
+    reply_to(Form::Tc(TcForm::PUS_C), kind(line), line, a, b)
 }
 
 fn reply_in(form: &[u8], line: &[u8], a: &mut [u8], b: &mut [u8]) {
-    let kind = kind(line);
-    let Value::Is(width) = fields::width(form) else {
+    let Value::Is(n) = fields::form_number(form) else {
         return show::bad();
     };
+    let letter = fields::form_letter(form);
+    match letter {
+        97 => reply_in_a(fields::low8(n), kind(line), line, a, b),
+        116 => reply_to(Form::Tm(fields::low8(n)), tm_kind(line), line, a, b),
+        _ => show::bad(),
+    }
+}
+
+fn reply_in_a(width: u8, kind: usize, line: &[u8], a: &mut [u8], b: &mut [u8]) {
     if takes_form(kind) {
-        return reply_to(TcForm::pus_a(fields::low8(width)), kind, line, a, b);
+        return reply_to(Form::Tc(TcForm::pus_a(width)), kind, line, a, b);
     }
     show::bad()
 }
@@ -64,37 +79,91 @@ fn kind(line: &[u8]) -> usize {
     )
 }
 
-fn reply_to(form: TcForm, kind: usize, line: &[u8], a: &mut [u8], b: &mut [u8]) {
-    let mut v = [0u64; 18];
-    if asked(kind, line, &mut v, a, b) {
-        let data = text::part(a, 0, v[fields::DATA] as usize);
-        return answer_to(form, kind, line, v, data, b);
+// The same among the requests of telemetry.
+fn tm_kind(line: &[u8]) -> usize {
+    fields::place(text::piece(line, 32, 0), b"strict read create reserve")
+}
+
+fn reply_to(form: Form, kind: usize, line: &[u8], a: &mut [u8], b: &mut [u8]) {
+    let mut v = [0u64; 20];
+    if asked(form, kind, line, &mut v, a, b) {
+        let n = v[fields::TIME] as usize;
+        let data = text::part(text::part(a, n, a.len()), 0, v[fields::DATA] as usize);
+        return answer_to(form, kind, line, v, text::part(a, 0, n), data, b);
     }
     show::bad()
 }
 
 // Whether a line has the fields that its kind asks; they are in the order of the kinds.
-fn asked(kind: usize, line: &[u8], v: &mut [u64; 18], a: &mut [u8], b: &mut [u8]) -> bool {
-    let form = text::piece(
-        b"a a a a ac 3 ma manb 0b 0122aeb tab 0152azb mb0122ae 433",
-        32,
-        kind,
-    );
-    fields::read(form, line, v, a, b)
+fn asked(
+    form: Form,
+    kind: usize,
+    line: &[u8],
+    v: &mut [u64; 20],
+    a: &mut [u8],
+    b: &mut [u8],
+) -> bool {
+    match form {
+        Form::Tc(_) => fields::read(
+            text::piece(
+                b"a a a a ac 3 ma manb 0b 0122aeb tab 0152azb mb0122ae 433",
+                32,
+                kind,
+            ),
+            line,
+            v,
+            a,
+            b,
+        ),
+        Form::Tm(_) => fields::read(
+            text::piece(b"a ma 06x22afb 06x52azb", 32, kind),
+            line,
+            v,
+            a,
+            b,
+        ),
+    }
 }
 
-fn answer_to(form: TcForm, kind: usize, line: &[u8], v: [u64; 18], data: &[u8], b: &mut [u8]) {
+fn answer_to(
+    form: Form,
+    kind: usize,
+    line: &[u8],
+    v: [u64; 20],
+    time: &[u8],
+    data: &[u8],
+    b: &mut [u8],
+) {
     let n = v[fields::BUF] as usize;
-    if kind < SPHWRITE {
-        return reads(form, kind, v, data, text::part(b, 0, n));
-    }
     if b.len() <= n {
-        return writes(form, kind, line, v, data, b);
+        return answer_with(form, kind, line, v, time, data, b);
     }
-    writes(form, kind, line, v, data, &mut b[0..n])
+    answer_with(form, kind, line, v, time, data, &mut b[0..n])
 }
 
-fn reads(form: TcForm, kind: usize, v: [u64; 18], data: &[u8], other: &[u8]) {
+fn answer_with(
+    form: Form,
+    kind: usize,
+    line: &[u8],
+    v: [u64; 20],
+    time: &[u8],
+    data: &[u8],
+    buf: &mut [u8],
+) {
+    match form {
+        Form::Tm(time_len) => telemetry::answer(time_len, kind, line, v, time, data, buf),
+        Form::Tc(form) => commands(form, kind, line, v, data, buf),
+    }
+}
+
+fn commands(form: TcForm, kind: usize, line: &[u8], v: [u64; 20], data: &[u8], buf: &mut [u8]) {
+    if kind < SPHWRITE {
+        return reads(form, kind, v, data, buf);
+    }
+    writes(form, kind, line, v, data, buf)
+}
+
+fn reads(form: TcForm, kind: usize, v: [u64; 20], data: &[u8], other: &[u8]) {
     match kind {
         0 => checksum::checksum(data),
         1 => header::read(data),
@@ -107,7 +176,7 @@ fn reads(form: TcForm, kind: usize, v: [u64; 18], data: &[u8], other: &[u8]) {
     }
 }
 
-fn writes(form: TcForm, kind: usize, line: &[u8], v: [u64; 18], data: &[u8], buf: &mut [u8]) {
+fn writes(form: TcForm, kind: usize, line: &[u8], v: [u64; 20], data: &[u8], buf: &mut [u8]) {
     match kind {
         8 => header::write(v, buf),
         9 => write::create(form, line, v, data, buf),

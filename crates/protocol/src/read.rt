@@ -29,7 +29,7 @@ fn read_in(form: TcForm, mode: u64, s: &[u8]) -> PusTcRecordResult {
 }
 
 // read MODE DATA
-pub(crate) fn read(form: TcForm, v: [u64; 18], s: &[u8]) {
+pub(crate) fn read(form: TcForm, v: [u64; 20], s: &[u8]) {
     let r = read_in(form, v[fields::WORD], s);
     match r {
         PusTcRecordResult::Err(e) => show::refusal(e),
@@ -44,7 +44,12 @@ pub(crate) fn read(form: TcForm, v: [u64; 18], s: &[u8]) {
 pub(crate) fn report(words: &[u8], r: PusTcRecord) {
     show::sp(words, r.sp_header());
     show::sec(r.sec_header());
-    let v = [r.total as u64, r.start as u64, between(r.start, r.end)];
+    place(r.total, r.start, r.end);
+}
+
+// A space, then the total, and where the data start and how many they are.
+pub(crate) fn place(total: usize, start: usize, end: usize) {
+    let v = [total as u64, start as u64, between(start, end)];
     show::list(b" ", 32, &v, 3);
 }
 
@@ -55,7 +60,7 @@ fn between(start: usize, end: usize) -> u64 {
     (end - start) as u64
 }
 
-fn stored(crc16: Crc16) {
+pub(crate) fn stored(crc16: Crc16) {
     show::say(b" ");
     match crc16 {
         Crc16::Some(w) => show::word(w),
@@ -64,7 +69,7 @@ fn stored(crc16: Crc16) {
 }
 
 // cmprr MODE DATA MODE DATA
-pub(crate) fn compare(v: [u64; 18], s: &[u8], t: &[u8]) {
+pub(crate) fn compare(v: [u64; 20], s: &[u8], t: &[u8]) {
     let first = v[fields::WORD];
     let second = v[fields::SECOND];
     let x = read_as(first, s);

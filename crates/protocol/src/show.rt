@@ -1,10 +1,13 @@
 // What answers are made of, each part written out as it comes.
+use ecss_write::packet::CrcResult;
+use reserve::BoundsResult;
 use space_packet::ByteConversionError;
 use space_packet::CheckResult;
 use space_packet::PusError;
 use space_packet::SizeResult;
 use space_packet::SpHeader;
 use tc_header::PusTcSecondaryHeader;
+use tm_header::PusTmSecondaryHeader;
 
 pub(crate) fn say(s: &[u8]) {
     io::write_all(1, s);
@@ -136,6 +139,43 @@ pub(crate) fn size(words: &[u8], r: SizeResult) {
     }
 }
 
+// ---- writes
+
+// The answer of a write, and the buffer after it.
+pub(crate) fn written(r: SizeResult, buf: &[u8]) {
+    size(b"ok:", r);
+    octets(buf);
+}
+
+// A creator's choice of checksum, the length of its packet and its own checksum, each after a space.
+pub(crate) fn creator(has_checksum: bool, len: SizeResult, own: CrcResult) {
+    number(b" ", has_checksum as u64);
+    say(b" ");
+    size(b"", len);
+    say(b" ");
+    match own {
+        CrcResult::Err(e) => refusal(e),
+        CrcResult::Ok(w) => word(w),
+    }
+}
+
+// The length of a reserved packet and of its data, then where the part for the data begins in the buffer, and how long it is.
+pub(crate) fn reserved(total: usize, len: SizeResult, bounds: BoundsResult, part: usize) {
+    number(b" ", total as u64);
+    say(b" ");
+    size(b"", len);
+    say(b" ");
+    start(bounds);
+    number(b" ", part as u64);
+}
+
+fn start(r: BoundsResult) {
+    match r {
+        BoundsResult::Err(e) => refusal(e),
+        BoundsResult::Ok(p) => number(b"", p.start as u64),
+    }
+}
+
 // ---- headers
 
 fn sp_numbers(h: SpHeader) -> [u64; 7] {
@@ -172,4 +212,18 @@ pub(crate) fn sec(x: PusTcSecondaryHeader) {
         x.source_id() as u64,
     ];
     list(b" ", 44, &v, 5);
+}
+
+// A space, then TM: version, time reference status, service, subtype, counter, destination.
+pub(crate) fn tm(x: PusTmSecondaryHeader) {
+    let version = x.pus_version();
+    let v = [
+        version.raw_value() as u64,
+        x.sc_time_ref_status() as u64,
+        x.service_type_id() as u64,
+        x.message_subtype_id() as u64,
+        x.msg_counter() as u64,
+        x.dest_id() as u64,
+    ];
+    list(b" ", 44, &v, 6);
 }

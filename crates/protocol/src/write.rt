@@ -6,7 +6,6 @@ use crate::show;
 use ecss::CreatorConfig;
 use ecss::MessageTypeId;
 use ecss::PusVersion;
-use reserve::BoundsResult;
 use space_packet::Apid;
 use space_packet::ApidResult;
 use space_packet::CheckResult;
@@ -21,7 +20,6 @@ use tc_header::TcForm;
 use tc_read::PusTcRecordResult;
 use tc_reserved::PusTcCreatorWithReservedAppData;
 use tc_reserved::ReservedResult;
-use tc_write::CrcResult;
 use tc_write::PusTcBuilder;
 use tc_write::PusTcBuilderResult;
 use tc_write::PusTcBuilderSet;
@@ -32,7 +30,7 @@ use tc_write::PusTcCreatorSet;
 // ---- the creator
 
 // The form is refused before a field.
-fn check(form: TcForm, v: [u64; 18]) -> CheckResult {
+fn check(form: TcForm, v: [u64; 20]) -> CheckResult {
     let c = form.check();
     let CheckResult::Ok = c else {
         return c;
@@ -41,12 +39,18 @@ fn check(form: TcForm, v: [u64; 18]) -> CheckResult {
 }
 
 // The creator that a line asks for, its edits made.
-fn creator(form: TcForm, v: [u64; 18], data: &[u8], edits: &[u8]) -> PusTcCreatorResult {
+fn creator(form: TcForm, v: [u64; 20], data: &[u8], edits: &[u8]) -> PusTcCreatorResult {
     let c = check(form, v);
     if let CheckResult::Err(e) = c {
         return PusTcCreatorResult::Err(e);
     }
-    let made = PusTcCreator::new_in(form, fields::header(v), second(v), data, config(v));
+    let made = PusTcCreator::new_in(
+        form,
+        fields::header(v),
+        second(v),
+        data,
+        config(v[12], v[13]),
+    );
     match made {
         PusTcCreatorResult::Err(e) => PusTcCreatorResult::Err(e),
         PusTcCreatorResult::Ok(c) => edited(c, data, edits),
@@ -54,7 +58,7 @@ fn creator(form: TcForm, v: [u64; 18], data: &[u8], edits: &[u8]) -> PusTcCreato
 }
 
 // The secondary header of SEC.
-fn second(v: [u64; 18]) -> PusTcSecondaryHeader {
+fn second(v: [u64; 20]) -> PusTcSecondaryHeader {
     PusTcSecondaryHeader {
         message_type_id: MessageTypeId::new(fields::low8(v[9]), fields::low8(v[10])),
         source_id: fields::low16(v[11]),
@@ -63,7 +67,7 @@ fn second(v: [u64; 18]) -> PusTcSecondaryHeader {
     }
 }
 
-fn version(n: u64) -> PusVersion {
+pub(crate) fn version(n: u64) -> PusVersion {
     match n {
         0 => PusVersion::EsaPus,
         1 => PusVersion::PusA,
@@ -71,10 +75,10 @@ fn version(n: u64) -> PusVersion {
     }
 }
 
-fn config(v: [u64; 18]) -> CreatorConfig {
+pub(crate) fn config(set: u64, has: u64) -> CreatorConfig {
     CreatorConfig {
-        set_ccsds_len: v[12] == 1,
-        has_checksum: v[13] == 1,
+        set_ccsds_len: set == 1,
+        has_checksum: has == 1,
     }
 }
 
@@ -109,12 +113,12 @@ fn edit(creator: PusTcCreator, data: &[u8], edits: &[u8], k: usize) -> PusTcCrea
 
 fn edit_by(c: PusTcCreator, data: &[u8], name: usize, n: u64) -> PusTcCreatorSet {
     match name {
-        2 => kept(c.set_seq_flags(SequenceFlags::new_with_raw_value(fields::low8(n)))),
-        6 => c.update_ccsds_data_len(data),
-        7 => c.set_apid(apid(n)),
-        8 => c.set_seq_count(fields::psc(n).seq_count),
-        9 => c.set_source_id(fields::low16(n)),
-        10 => c.set_ack_flags(fields::ack(n)),
+        5 => kept(c.set_seq_flags(SequenceFlags::new_with_raw_value(fields::low8(n)))),
+        9 => c.update_ccsds_data_len(data),
+        10 => c.set_apid(apid(n)),
+        11 => c.set_seq_count(fields::psc(n).seq_count),
+        14 => c.set_source_id(fields::low16(n)),
+        15 => c.set_ack_flags(fields::ack(n)),
         _ => edit_header(c, name, n),
     }
 }
@@ -126,30 +130,30 @@ fn kept(creator: PusTcCreator) -> PusTcCreatorSet {
     }
 }
 
-fn apid(n: u64) -> Apid {
+pub(crate) fn apid(n: u64) -> Apid {
     let id = fields::packet_id(n);
     id.apid()
 }
 
 // The edits of a header that have no call of their own.
 fn edit_header(c: PusTcCreator, name: usize, n: u64) -> PusTcCreatorSet {
-    if name < 5 {
+    if name < 8 {
         return c.set_sp_header(edit_first(c.sp_header(), name, n));
     }
     c.set_sec_header(edit_second(c.sec_header(), name, n))
 }
 
-fn edit_first(h: SpHeader, name: usize, n: u64) -> SpHeader {
+pub(crate) fn edit_first(h: SpHeader, name: usize, n: u64) -> SpHeader {
     let mut set = h;
-    if name == 0 {
+    if name == 3 {
         set.data_len = fields::low16(n);
         return set;
     }
-    if name == 1 {
+    if name == 4 {
         set.version = fields::low8(n);
         return set;
     }
-    if name == 3 {
+    if name == 6 {
         return h.set_packet_type(PacketType::new_with_raw_value(fields::low8(n)));
     }
     if n == 1 {
@@ -159,13 +163,9 @@ fn edit_first(h: SpHeader, name: usize, n: u64) -> SpHeader {
 }
 
 fn edit_second(x: PusTcSecondaryHeader, name: usize, n: u64) -> PusTcSecondaryHeader {
-    let mut set = x;
-    if name == 11 {
-        set.message_type_id = MessageTypeId::new(fields::low8(n), x.message_subtype_id());
-        return set;
-    }
-    if name == 12 {
-        set.message_type_id = MessageTypeId::new(x.service_type_id(), fields::low8(n));
+    if name > 8 {
+        let mut set = x;
+        set.message_type_id = edit_type(x.message_type_id, name, n);
         return set;
     }
     let message_type_id = x.message_type_id;
@@ -178,10 +178,18 @@ fn edit_second(x: PusTcSecondaryHeader, name: usize, n: u64) -> PusTcSecondaryHe
     }
 }
 
+// `service` or `subtype`.
+pub(crate) fn edit_type(id: MessageTypeId, name: usize, n: u64) -> MessageTypeId {
+    if name == 12 {
+        return MessageTypeId::new(fields::low8(n), id.subtype_id);
+    }
+    MessageTypeId::new(id.type_id, fields::low8(n))
+}
+
 // ---- create
 
 // create SP SEC set has DATA EDITS BUF
-pub(crate) fn create(form: TcForm, line: &[u8], v: [u64; 18], data: &[u8], buf: &mut [u8]) {
+pub(crate) fn create(form: TcForm, line: &[u8], v: [u64; 20], data: &[u8], buf: &mut [u8]) {
     let r = creator(form, v, data, text::piece(line, 32, 6));
     made(r, data, text::piece(line, 32, 7), buf);
 }
@@ -203,26 +211,18 @@ fn made(r: PusTcCreatorResult, data: &[u8], field: &[u8], buf: &mut [u8]) {
 fn told(c: PusTcCreator, data: &[u8]) {
     show::sp(b"made ", c.sp_header());
     show::sec(c.sec_header());
-    show::number(b" ", c.has_checksum() as u64);
-    show::say(b" ");
-    show::size(b"", c.len_written(data));
-    show::say(b" ");
-    own(c.calc_own_crc16(data));
-}
-
-fn own(r: CrcResult) {
-    match r {
-        CrcResult::Err(e) => show::refusal(e),
-        CrcResult::Ok(w) => show::word(w),
-    }
+    show::creator(
+        c.has_checksum(),
+        c.len_written(data),
+        c.calc_own_crc16(data),
+    );
 }
 
 // A space, the answer of a write to a fresh copy of BUF, and the copy.
 fn written(way: usize, c: PusTcCreator, data: &[u8], field: &[u8], buf: &mut [u8]) {
     text::octets(field, buf);
     show::say(b" ");
-    show::size(b"ok:", write(way, c, data, buf));
-    show::octets(buf);
+    show::written(write(way, c, data, buf), buf);
 }
 
 fn write(way: usize, c: PusTcCreator, data: &[u8], buf: &mut [u8]) -> SizeResult {
@@ -236,7 +236,7 @@ fn write(way: usize, c: PusTcCreator, data: &[u8], buf: &mut [u8]) -> SizeResult
 // ---- build
 
 // build SETTERS DATA BUF
-pub(crate) fn build(form: TcForm, line: &[u8], v: [u64; 18], data: &[u8], buf: &mut [u8]) {
+pub(crate) fn build(form: TcForm, line: &[u8], v: [u64; 20], data: &[u8], buf: &mut [u8]) {
     let begun = PusTcCreator::builder_in(form);
     match begun {
         PusTcBuilderResult::Err(e) => show::refusal(e),
@@ -305,12 +305,12 @@ fn set_one(s: PusTcBuilderSet, setters: &[u8], k: usize) -> PusTcBuilderSet {
 
 fn set_by(b: PusTcBuilder, name: usize, v: [u64; 4]) -> PusTcBuilderSet {
     match name {
-        7 => b.with_apid(apid(v[0])),
-        8 => b.with_sequence_count(fields::psc(v[0]).seq_count),
-        9 => b.with_source_id(fields::low16(v[0])),
-        10 => b.with_ack_flags(fields::ack(v[0])),
-        13 => b.with_packet_id(packet_id(v)),
-        14 => b.with_packet_sequence_control(psc(v)),
+        10 => b.with_apid(apid(v[0])),
+        11 => b.with_sequence_count(fields::psc(v[0]).seq_count),
+        14 => b.with_source_id(fields::low16(v[0])),
+        15 => b.with_ack_flags(fields::ack(v[0])),
+        16 => b.with_packet_id(packet_id(v)),
+        17 => b.with_packet_sequence_control(psc(v)),
         _ => unrefused(set_freely(b, name, v)),
     }
 }
@@ -333,10 +333,10 @@ fn psc(v: [u64; 4]) -> PacketSequenceControl {
 // The setters that refuse nothing. `data` is none of the builder's.
 fn set_freely(b: PusTcBuilder, name: usize, v: [u64; 4]) -> PusTcBuilder {
     match name {
-        11 => b.with_service_type_id(fields::low8(v[0])),
-        12 => b.with_message_subtype_id(fields::low8(v[0])),
-        15 => b.with_message_type_id(MessageTypeId::new(fields::low8(v[0]), fields::low8(v[1]))),
-        16 => b.with_checksum(v[0] == 1),
+        12 => b.with_service_type_id(fields::low8(v[0])),
+        13 => b.with_message_subtype_id(fields::low8(v[0])),
+        18 => b.with_message_type_id(MessageTypeId::new(fields::low8(v[0]), fields::low8(v[1]))),
+        19 => b.with_checksum(v[0] == 1),
         _ => b,
     }
 }
@@ -344,7 +344,7 @@ fn set_freely(b: PusTcBuilder, name: usize, v: [u64; 4]) -> PusTcBuilder {
 // ---- reserve
 
 // reserve SP SEC data_len has FILL FIN BUF
-pub(crate) fn reserve(v: [u64; 18], fill: &[u8], buf: &mut [u8]) {
+pub(crate) fn reserve(v: [u64; 20], fill: &[u8], buf: &mut [u8]) {
     if v[12] < fill.len() as u64 {
         show::bad();
         return;
@@ -363,7 +363,7 @@ pub(crate) fn reserve(v: [u64; 18], fill: &[u8], buf: &mut [u8]) {
     }
 }
 
-fn reserved(v: [u64; 18], buf: &mut [u8]) -> ReservedResult {
+fn reserved(v: [u64; 20], buf: &mut [u8]) -> ReservedResult {
     let c = fields::check_heads(v);
     if let CheckResult::Err(e) = c {
         return ReservedResult::Err(e);
@@ -381,26 +381,17 @@ fn filled(w: PusTcCreatorWithReservedAppData, fill: &[u8], fin: u64, buf: &mut [
     lengths(w, buf);
     w.fill_app_data(fill, buf);
     show::say(b" ");
-    show::size(b"ok:", finish(w, fin, buf));
-    show::octets(buf);
+    show::written(finish(w, fin, buf), buf);
 }
 
-// The length of the packet and of its data, then where the part for the data begins in the buffer, and how long it is.
 fn lengths(w: PusTcCreatorWithReservedAppData, buf: &[u8]) {
-    show::number(b" ", w.len_written() as u64);
-    show::say(b" ");
-    show::size(b"", w.app_data_len());
-    show::say(b" ");
-    start(w.app_data_bounds(buf.len()));
     let part = w.app_data(buf);
-    show::number(b" ", part.len() as u64);
-}
-
-fn start(r: BoundsResult) {
-    match r {
-        BoundsResult::Err(e) => show::refusal(e),
-        BoundsResult::Ok(p) => show::number(b"", p.start as u64),
-    }
+    show::reserved(
+        w.len_written(),
+        w.app_data_len(),
+        w.app_data_bounds(buf.len()),
+        part.len(),
+    );
 }
 
 // FIN by its place among the words.
@@ -415,7 +406,7 @@ fn finish(w: PusTcCreatorWithReservedAppData, fin: u64, buf: &mut [u8]) -> SizeR
 // ---- cmprc
 
 // cmprc MODE DATA SP SEC set has DATA EDITS
-pub(crate) fn compare(line: &[u8], v: [u64; 18], data: &[u8], slice: &[u8]) {
+pub(crate) fn compare(line: &[u8], v: [u64; 20], data: &[u8], slice: &[u8]) {
     let mode = v[fields::WORD];
     let r = read::read_as(mode, slice);
     match r {
@@ -442,7 +433,7 @@ fn compared(r: PusTcCreatorResult, data: &[u8], slice: &[u8], has_checksum: bool
 // ---- new_simple
 
 // simple APID SERVICE SUBTYPE
-pub(crate) fn simple(v: [u64; 18]) {
+pub(crate) fn simple(v: [u64; 20]) {
     let id = MessageTypeId::new(fields::low8(v[1]), fields::low8(v[2]));
     let r = Apid::new(fields::low16(v[0]));
     match r {

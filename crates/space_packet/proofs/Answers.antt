@@ -1,13 +1,15 @@
 -- Laws of answers: what an answer says of its checks, and that a number with its values tells the refusal.
-use Prim.Native.Nat.{ℕ}
+use Prim.Native.Nat.{ℕ, _≤_, _<_}
 use mathlib.Core.Path.{_≡_, refl, sym, ap, _∙_, subst}
+use mathlib.Core.Logic.{_↔_}
 use mathlib.Core.Bool.{Bool, true, false}
-use mathlib.Core.List.{List, _++_}
+use mathlib.Core.List.{List, [], _∷_, _++_}
 use native.Mathlib.Omega.{arith}
 use lib.ListN.{getD, drop}
-use lib.Dec.{eqb}
+use lib.Dec.{eqb, ltb}
+use borrow.Author.Tests.{lt-ltb, le-ltb, ltb-false}
 use Rattle.space_packet.specs.Bits.{pick}
-use Rattle.space_packet.specs.Answer.{Numbers, Answer, Passed, gives, refuses, refuseIf, _then_, setIf, numbersOf}
+use Rattle.space_packet.specs.Answer.{Numbers, Answer, Passed, gives, refuses, refusal, refuseIf, _then_, setIf, inRange, inBuffer, numbersOf}
 use Rattle.space_packet.specs.Header.{leftBy}
 use Rattle.space_packet.specs.declared.PusError.{PusError}
 use Rattle.space_packet.specs.declared.PusError.the-variants as E
@@ -119,6 +121,27 @@ unfolding setIf
 set-in f (gives u) old new = refl
 set-in f (refuses e) old new = refl
 
+-- a field passes where it is at most its largest, and only there
+pub range-passes : (place largest value : ℕ) → (inRange place largest value ≡ gives tt) ↔ (value ≤ largest)
+range-passes place largest value = (
+  λ p. ltb-false largest value (refuse-gives _ _ _ _ p .0),
+  λ h. refuse-no _ _ _ (le-ltb largest value h),
+)
+
+-- a size n that the code computed: the buffer of m octets has no room for it, or it has
+pub no-room : (m n k : ℕ) → n ≡ k → m < n → refuses (refusal 1 (m ∷ n ∷ [])) ≡ inBuffer m k
+no-room m n k e h = sym (refuse-yes _ _ _ (lt-ltb m n h)) ∙ ap (inBuffer m) e
+
+pub has-room : (m n k : ℕ) → n ≡ k → n ≤ m → inBuffer m k ≡ gives k
+has-room m n k e h = refuse-no _ _ _ (le-ltb m k (omega arith))
+
+-- and the same of octets that are read
+pub too-few : {A : Type 0} (m n k : ℕ) (r : Answer A) → n ≡ k → m < n → refuses (refusal 2 (m ∷ n ∷ [])) ≡ refuseIf (ltb m k) (refusal 2 (m ∷ k ∷ [])) r
+too-few m n k r e h = sym (refuse-yes _ _ _ (lt-ltb m n h)) ∙ ap (λ (z : ℕ). refuseIf (ltb m z) (refusal 2 (m ∷ z ∷ [])) r) e
+
+pub enough : {A : Type 0} (m n k : ℕ) (r : Answer A) → n ≡ k → n ≤ m → refuseIf (ltb m k) (refusal 2 (m ∷ k ∷ [])) r ≡ r
+enough m n k r e h = refuse-no _ _ _ (le-ltb m k (omega arith))
+
 -- what a write leaves, refused or done
 pub left-refused : (a : Answer ℕ) (p before : List ℕ) (e : Numbers) → a ≡ refuses e → leftBy a p before ≡ before
 left-refused a p before e q = ap (λ (z : Answer ℕ). leftBy z p before) q
@@ -141,7 +164,8 @@ errorOf n =
     (pick (eqb (n .number) 9) (E.PacketVersion (getD (n .values) 0 0))
     (pick (eqb (n .number) 10) E.PacketTypeTm
     (pick (eqb (n .number) 11) E.NoSecondaryHeader
-    (pick (eqb (n .number) 12) E.IdleApid E.SourceWidth)))))))))))
+    (pick (eqb (n .number) 12) E.IdleApid
+    (pick (eqb (n .number) 13) E.PacketTypeTc (pick (eqb (n .number) 14) E.TimeLength E.SourceWidth)))))))))))))
 
 pub error-back : (e : PusError) → errorOf (numbersOf e) ≡ e
 unfolding errorOf
@@ -157,6 +181,8 @@ error-back (E.PacketVersion n) = refl
 error-back E.PacketTypeTm = refl
 error-back E.NoSecondaryHeader = refl
 error-back E.IdleApid = refl
+error-back E.PacketTypeTc = refl
+error-back E.TimeLength = refl
 error-back E.SourceWidth = refl
 
 pub numbers-inj : (e f : PusError) → numbersOf e ≡ numbersOf f → e ≡ f

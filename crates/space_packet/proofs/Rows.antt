@@ -43,7 +43,7 @@ bits-split (suc a) b x y h =
     ap (λ (n : ℕ). bits n v) (suc-add a b) ∙ (λ i. lowest (q i) ∷ bits-split a b x y h i)
 
 -- sixteen bits and their two octets
-word-row : (w : ℕ) (s : List ℕ) → row (be16 w ++ s) ≡ bits 16 w ++ row s
+pub word-row : (w : ℕ) (s : List ℕ) → row (be16 w ++ s) ≡ bits 16 w ++ row s
 unfolding row
 word-row w s =
     let e : bits 16 w ≡ bits 8 (w / 256) ++ bits 8 (w % 256) = ap (bits 16) (sym (div-add-mod' w 256)) ∙ bits-split 8 8 (w / 256) (w % 256) (omega arith) in

@@ -1,6 +1,6 @@
 -- Headers are the same, by the call, where they are equal and only there.
-use mathlib.Core.Path.{_≡_, refl, sym, ap, _∙_}
-use mathlib.Core.Bool.{true, _&&_, and-eq-true-iff}
+use mathlib.Core.Path.{_≡_, refl, sym, ap, ap₂, _∙_}
+use mathlib.Core.Bool.{Bool, true, _&&_, and-eq-true-iff}
 use mathlib.Core.Logic.{_↔_}
 use Prim.Native.Nat.{ℕ}
 use lib.Dec.{eqb}
@@ -36,6 +36,10 @@ equal-fields g h p =
     let ed : g .«data_len» ≡ h .«data_len» = eqb-true _ _ (pd .1) in
     λ i. record { version = ev i; «packet_id» = record { «packet_type» = et i; «sec_header_flag» = ef i; apid = record { 0 = ea i } }; psc = record { «seq_flags» = es i; «seq_count» = record { 0 = en i } }; «data_len» = ed i }
 
+-- a field that is the same, and what follows it
+pub first-same : (m n : ℕ) (rest : Bool) → (eqb m n && rest) ≡ true → (m ≡ n) × (rest ≡ true)
+first-same m n rest p = let q = and-eq-true-iff (eqb m n) rest .0 p in (eqb-true m n (q .0), q .1)
+
 -- a number is its own equal, by the test that comparisons make
 pub itself : (n : ℕ) → eqb n n ≡ true
 itself n = eq-eqb n n refl
@@ -46,3 +50,20 @@ same-itself h = simp itself
 
 pub same-header : (g h : SpacePacketHeader) → (sameHeader g h ≡ true) ↔ (g ≡ h)
 same-header g h = (equal-fields g h, λ e. ap (sameHeader g) (sym e) ∙ same-itself g)
+
+-- ---- parts compared one after the other: the test holds where each part is the same, and only there
+
+pub both : {P Q : Type 0} (a b : Bool) → (a ≡ true) ↔ P → (b ≡ true) ↔ Q → ((a && b) ≡ true) ↔ (P × Q)
+both a b p q = (
+  λ e. let k = and-eq-true-iff a b .0 e in (p .0 (k .0), q .0 (k .1)),
+  λ h. ap₂ _&&_ (p .1 (h .0)) (q .1 (h .1)),
+)
+
+pub same-number : (m n : ℕ) → (eqb m n ≡ true) ↔ (m ≡ n)
+same-number m n = (eqb-true m n, eq-eqb m n)
+
+pub same-flag : (a b : Bool) → (eqb (flagNumber a) (flagNumber b) ≡ true) ↔ (a ≡ b)
+same-flag a b = (
+  λ p. by-inverse flagNumber lowest flag-back a b (eqb-true _ _ p),
+  λ e. eq-eqb _ _ (ap flagNumber e),
+)

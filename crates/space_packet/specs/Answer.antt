@@ -69,6 +69,8 @@ numbersOf (E.PacketVersion number) = refusal 9 (number ∷ [])
 numbersOf E.PacketTypeTm = refusal 10 []
 numbersOf E.NoSecondaryHeader = refusal 11 []
 numbersOf E.IdleApid = refusal 12 []
+numbersOf E.PacketTypeTc = refusal 13 []
+numbersOf E.TimeLength = refusal 14 []
 numbersOf E.SourceWidth = refusal 32 []
 
 -- written out, with 0 for a value that it has not

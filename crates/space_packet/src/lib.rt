@@ -36,8 +36,8 @@ pub enum PusError {
     CrcCalculationMissing,
     // 6, with the length of the application data
     PacketTooLong(usize),
-    // 7: place 1 is the packet version number, 2 the APID, 3 the sequence count, 4 the acknowledgement flags,
-    // 5 the source ID
+    // 7: place 1 is the packet version number, 2 the APID, 3 the sequence count, 4 the acknowledgement flags, of telemetry the
+    // time reference status, 5 the source ID
     FieldRange { place: u8, value: u16 },
     // 8
     Reservation,
@@ -49,6 +49,10 @@ pub enum PusError {
     NoSecondaryHeader,
     // 12
     IdleApid,
+    // 13
+    PacketTypeTc,
+    // 14: a time length above 16, or a time field of another length than the mission's
+    TimeLength,
     // 32: a source ID of another width than 0, 8 and 16 bits
     SourceWidth,
 }
@@ -106,6 +110,8 @@ impl PusError {
             PusError::PacketTypeTm => in_numbers(10, 0, 0, 0),
             PusError::NoSecondaryHeader => in_numbers(11, 0, 0, 0),
             PusError::IdleApid => in_numbers(12, 0, 0, 0),
+            PusError::PacketTypeTc => in_numbers(13, 0, 0, 0),
+            PusError::TimeLength => in_numbers(14, 0, 0, 0),
             PusError::SourceWidth => in_numbers(32, 0, 0, 0),
         }
     }
@@ -453,7 +459,7 @@ pub struct SpHeaderSet {
 }
 
 // The octet at `at`, or 0 past the end.
-fn octet_at(s: &[u8], at: usize) -> u8
+pub fn octet_at(s: &[u8], at: usize) -> u8
     ensures { λ r. ⌜ r ≡ getD (now (s .entry)) at 0 ⌝ }
 {
     if s.len() <= at {

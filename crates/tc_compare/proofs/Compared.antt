@@ -8,13 +8,13 @@ use Rattle.space_packet.specs.Answer.{Answer, gives, refuses}
 use Rattle.space_packet.specs.Header.{sameHeader}
 use Rattle.space_packet.proofs.Same.{same-header}
 use Rattle.ecss.specs.Frame.{sameOctets}
-use Rattle.ecss.proofs.Octets.{same-octets}
+use Rattle.ecss.proofs.Octets.{same-octets, ReadAlike, same-read}
 use Rattle.tc_header.specs.Header.{sameSec}
 use Rattle.tc_header.specs.declared.TcForm.{TcForm}
 use Rattle.tc_header.proofs.Same.{same-sec}
 use Rattle.tc_write.specs.declared.PusTcCreator.{PusTcCreator}
 use Rattle.tc_read.specs.Read.{readIn, appDataIn, rawDataIn}
-use Rattle.tc_compare.specs.Compare.{reportsCreator, equalsCreatorIn, isRead, equalsReaderIn}
+use Rattle.tc_compare.specs.Compare.{reportsCreator, equalsCreatorIn, equalsReaderIn}
 use Rattle.tc_read.specs.declared.PusTcRecord.{PusTcRecord}
 
 -- what was read compared with a creator, where both headers' comparisons are known
@@ -53,24 +53,7 @@ equals-creator f s b t d = (
       ∙ same-octets (appDataIn f s b) d .1 (k .data-equal),
 )
 
-is-read : (a : Answer PusTcRecord) → (isRead a ≡ true) ↔ ((r : PusTcRecord) × (a ≡ gives r))
-is-read (refuses e) = (λ p. absurd (false≢true p), λ k. ap isRead (k .1))
-is-read (gives r) = (λ p. (r, refl), λ k. refl)
-
--- what two readers that are equal read
-pub record ReadAlike (f : TcForm) (s : List ℕ) (b : Bool) (t : List ℕ) (c : Bool) : Type 0 where
-  pub one : (r : PusTcRecord) × (readIn f s b ≡ gives r)
-  pub other : (r : PusTcRecord) × (readIn f t c ≡ gives r)
-  pub octets-equal : rawDataIn f s b ≡ rawDataIn f t c
-
--- by their raw octets
-pub equals-reader : (f : TcForm) (s : List ℕ) (b : Bool) (t : List ℕ) (c : Bool) → (equalsReaderIn f s b t c ≡ true) ↔ ReadAlike f s b t c
-equals-reader f s b t c = (
-  λ p.
-      let h = and-eq-true-iff (isRead (readIn f s b)) _ .0 p in
-      let k = and-eq-true-iff (isRead (readIn f t c)) _ .0 (h .1) in
-      record { one = is-read _ .0 (h .0); other = is-read _ .0 (k .0); octets-equal = same-octets _ _ .0 (k .1) },
-  λ k.
-      ap₂ (λ (x y : Bool). x && (y && sameOctets (rawDataIn f s b) (rawDataIn f t c))) (is-read (readIn f s b) .1 (k .one)) (is-read (readIn f t c) .1 (k .other))
-      ∙ same-octets _ _ .1 (k .octets-equal),
-)
+-- two readers, by their raw octets
+pub equals-reader : (f : TcForm) (s : List ℕ) (b : Bool) (t : List ℕ) (c : Bool)
+    → (equalsReaderIn f s b t c ≡ true) ↔ ReadAlike (readIn f s b) (readIn f t c) (rawDataIn f s b) (rawDataIn f t c)
+equals-reader f s b t c = same-read _ _ _ _

@@ -1,10 +1,10 @@
 -- Telecommands of a form that were read, compared: octets are read anew, without verifying; where a read is refused, the answer is no.
 use Prim.Native.Nat.{ℕ}
-use mathlib.Core.Bool.{Bool, true, false, _&&_}
+use mathlib.Core.Bool.{Bool, false, _&&_}
 use mathlib.Core.List.{List}
 use Rattle.space_packet.specs.Answer.{Answer, gives, refuses}
 use Rattle.space_packet.specs.Header.{sameHeader}
-use Rattle.ecss.specs.Frame.{sameOctets}
+use Rattle.ecss.specs.Frame.{sameOctets, sameRead}
 use Rattle.tc_header.specs.Form.{formC}
 use Rattle.tc_header.specs.Header.{sameSec}
 use Rattle.tc_header.specs.declared.TcForm.{TcForm}
@@ -25,12 +25,8 @@ abbrev pub equalsCreator : List ℕ → Bool → PusTcCreator → List ℕ → B
 equalsCreator = equalsCreatorIn formC
 
 -- two readers: by their raw octets only
-abbrev pub isRead : Answer PusTcRecord → Bool
-isRead (refuses e) = false
-isRead (gives r) = true
-
 abbrev pub equalsReaderIn : TcForm → List ℕ → Bool → List ℕ → Bool → Bool
-equalsReaderIn f s b t c = isRead (readIn f s b) && (isRead (readIn f t c) && sameOctets (rawDataIn f s b) (rawDataIn f t c))
+equalsReaderIn f s b t c = sameRead (readIn f s b) (readIn f t c) (rawDataIn f s b) (rawDataIn f t c)
 
 abbrev pub equalsReader : List ℕ → Bool → List ℕ → Bool → Bool
 equalsReader = equalsReaderIn formC

@@ -1,8 +1,9 @@
 // Telecommands that were read, compared with a creator and with each other: each call takes the octets and the choice of
 // checksum, and reads anew, as PUS C or, where it ends in `_in`, in the form that is named.
 ghost use mathlib.Core.Path.{_≡_};
+ghost use Rattle.ecss.specs.Frame.{isRead};
 ghost use Rattle.tc_read.specs.Read.{readIn};
-ghost use Rattle.tc_compare.specs.Compare.{equalsCreatorIn, equalsCreator, isRead, equalsReaderIn, equalsReader};
+ghost use Rattle.tc_compare.specs.Compare.{equalsCreatorIn, equalsCreator, equalsReaderIn, equalsReader};
 use ecss::frame;
 use tc_header::TcForm;
 use tc_read::PusTcRecord;

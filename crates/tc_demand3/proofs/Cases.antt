@@ -4,17 +4,17 @@ use Rattle.crc_register.specs.Crc.{_⊕_, bit, shiftIn, run, octetBits, bitsOf,
 use Rattle.space_packet.specs.Answer.{refuseIf, _then_}
 use Rattle.space_packet.specs.Fields.{idOf, pscOf}
 use Rattle.space_packet.specs.Header.{readHeader}
-use Rattle.ecss.specs.Frame.{frameOf, checkedOf}
+use Rattle.ecss.specs.Frame.{frameOf, checkedOf, frameAfter, checkedAfter}
 use Rattle.ecss.specs.Kind.{pusRule, strictRule, readAs, judge}
 use Rattle.ecss_write.specs.Write.{machineTotal, lengthField}
 use Rattle.tc_header.specs.Form.{formCheck}
 use Rattle.tc_header.specs.Header.{tcOf}
-use Rattle.tc_read.specs.Read.{recordIn, frameIn, checkedFrame, readIn, checkedIn}
+use Rattle.tc_read.specs.Read.{recordIn, readIn, checkedIn}
 use Rattle.tc_strict.specs.Verdict.{strictIn}
 use Rattle.tc_demand3.specs.Cases.{Cases}
 
 pub cases-hold : Cases
-unfolding _⊕_ bit shiftIn run octetBits bitsOf crcFrom refuseIf _then_ idOf pscOf readHeader frameOf checkedOf machineTotal lengthField pusRule strictRule readAs judge formCheck tcOf recordIn frameIn checkedFrame readIn checkedIn strictIn
+unfolding _⊕_ bit shiftIn run octetBits bitsOf crcFrom refuseIf _then_ idOf pscOf readHeader frameOf checkedOf frameAfter checkedAfter machineTotal lengthField pusRule strictRule readAs judge formCheck tcOf recordIn readIn checkedIn strictIn
 cases-hold =
     record {
       p1 = refl;

@@ -1,41 +1,32 @@
 -- The third demand, for every form that is taken: the strict verdict accepts bytes exactly when they begin with a checksummed
 -- telecommand that the written rules produce from some headers and data of at most 65,542 octets less the start and the checksum,
 -- of PUS C 65,529, with an APID of 0 to 2,046. `tc_strict::judge_in` answers `strictIn` of its form and octets.
-use Prim.Native.Nat.{ℕ, _+_, _-_, _/_, _≤_}
-use mathlib.Core.Path.{_≡_, refl, sym, ap, ap₂, _∙_, subst}
+use Prim.Native.Nat.{ℕ, _-_, _/_, _≤_}
+use mathlib.Core.Path.{_≡_, refl, sym, ap, _∙_, subst}
 use mathlib.Core.Logic.{_↔_}
 use mathlib.Core.Bool.{true, false}
 use mathlib.Core.List.{List, [], _++_}
 use native.Mathlib.Omega.{arith}
 use lib.ListN.{length, take, drop}
-use borrow.Author.Tests.{eqb-false, ne-eqb}
 use Rattle.space_packet.specs.Answer.{Numbers, gives, refuses, refusal}
 use Rattle.space_packet.specs.Fields.{isIdle}
-use Rattle.space_packet.specs.Wrote.{Wrote}
-use Rattle.space_packet.specs.declared.Apid.{Apid}
 use Rattle.space_packet.specs.declared.SpacePacketHeader.{SpacePacketHeader}
 use Rattle.space_packet.specs.declared.SizeResult.{SizeResult}
-use Rattle.space_packet.specs.declared.SizeResult.the-variants as Z
-use Rattle.space_packet.proofs.Answers.{gives-inj, gives-then, then-gives, refuses-then, then-refused, left-written}
-use Rattle.space_packet.proofs.Determined.{writes}
-use Rattle.ecss.specs.Frame.{Octets, statedOf, Told}
-use Rattle.ecss.specs.Kind.{Rules, BeginsWith, asIdle, judge, packetOf}
+use Rattle.space_packet.proofs.Answers.{gives-inj, gives-then, then-gives}
+use Rattle.ecss.specs.Frame.{Octets, Told}
+use Rattle.ecss.specs.Kind.{Rules, BeginsWith, asIdle, packetOf}
 use Rattle.ecss.specs.Version.{defaultConfig}
-use Rattle.ecss.proofs.Pieces.{data-is}
+use Rattle.ecss.proofs.Versions.{version-passes}
 use Rattle.ecss_write.specs.Writer.{packetBy, madeBy, newBy, Handed}
-use Rattle.reserve.specs.Reserve.{fillIn, filledBy, finishIn, finished}
-use Rattle.exactness.specs.Changed.{Changed}
-use Rattle.exactness.proofs.Exact.{complete, idle-judged, sound, unique, total-is, rewritten}
-use Rattle.exactness.proofs.Changed.{refused}
-use Rattle.exactness.proofs.Told.{told}
-use Rattle.exactness.proofs.Given.{checked, handed-rules, handed-new, new-handed, handed-reserve, rules-write}
-use Rattle.exactness.proofs.Agree.{reserved-agrees}
+use Rattle.exactness.specs.Demand3.{RefusesChanged, Exact, totalFor, Room, Accepted, madeOf, FinishedBy}
+use Rattle.exactness.proofs.Exact.{unique}
+use Rattle.exactness.proofs.Given.{handed-rules, handed-new, handed-reserve}
+use Rattle.exactness.proofs.Demand3 as Any
 use Rattle.tc_header.specs.Form.{formC, formA, isWidth, formCheck}
 use Rattle.tc_header.specs.Header.{tc, pusC}
 use Rattle.tc_header.specs.declared.TcForm.{TcForm}
 use Rattle.tc_write.specs.Command.{commandIn}
 use Rattle.tc_header.specs.declared.PusTcSecondaryHeader.{PusTcSecondaryHeader}
-use Rattle.tc_header.proofs.Checks.{fields-pass}
 use Rattle.tc_header.proofs.Forms.{taken, taken-c, form-passes}
 use Rattle.tc_header.proofs.Laws.{laws}
 use Rattle.tc_write.proofs.Command.{writer-laws}
@@ -49,18 +40,11 @@ use Rattle.tc_read.proofs.Records.{checked-is}
 use Rattle.tc_read.proofs.RoundTrip.{read-written, checked-written, data-written}
 use Rattle.tc_strict.specs.Verdict.{strictIn, strictOf}
 use Rattle.tc_strict.proofs.Verdicts.{verdict-refused}
-use Rattle.tc_demand3.specs.Rules.{Telecommand, AtMost, totalFor, reportFor, madeOf, Room, FinishedBy, Accepted}
-
--- The APIDs within the written rules, those of 11 bits that are no idle packet's, are 0 to 2,046.
-pub apids : (a : Apid) → ((a .0 ≤ 2047) × (isIdle a ≡ false)) ↔ (a .0 ≤ 2046)
-apids a = (
-  λ h. let n : a .0 ≡ 2047 → ⊥ = eqb-false _ _ (h .1) in omega (arith, n, h .0),
-  λ h. (omega (arith, h), ne-eqb (a .0) 2047 (λ (e : a .0 ≡ 2047). omega (arith, e, h))),
-)
+use Rattle.tc_demand3.specs.Rules.{Telecommand, AtMost, reportFor}
 
 module _ (f : TcForm) (good : formCheck f ≡ gives tt) where
   -- The written rules have at most so many octets of data, and so many are within them.
-  pub at-most : (p : Telecommand) → (totalFor f (p .user) ≤ 65542) ↔ AtMost f p
+  pub at-most : (p : Telecommand) → (totalFor (tc f) (p .user) ≤ 65542) ↔ AtMost f p
   at-most p = let w = taken f good .at-most-two in (λ h. omega (arith, h), λ h. omega (arith, h))
 
   -- 3. The ported reader, with the checksum taken and with it taken and compared, reports the same.
@@ -78,16 +62,13 @@ module _ (f : TcForm) (good : formCheck f ≡ gives tt) where
   pub reports : (s : List ℕ) (p : Telecommand) → BeginsWith (tc f) s p → strictIn f s ≡ gives (reportFor f p)
   unfolding strictIn
   reports s p b =
-      gives-then _ _ tt good ∙ gives-then _ _ _ (complete (tc f) (laws f good) s p b)
-      ∙ ap (λ (n : ℕ). gives (recordIn f s true n)) (total-is (tc f) (laws f good) s p b)
+      Any.accepts (formCheck f) good (tc f) (laws f good) (λ z. recordIn f z true) s p b
       ∙ ap gives (sym (checked-is f s (reportFor f p) (reader-reports s p b .1) .1))
 
   -- the octets from its start up to its end are the data,
   pub reported-data : (s : List ℕ) (p : Telecommand) → BeginsWith (tc f) s p
       → take (reportFor f p .end - reportFor f p .start) (drop (reportFor f p .start) s) ≡ p .user
-  reported-data s p b =
-      let n : startIn f + length (p .user) - startIn f ≡ length (p .user) = omega arith in
-      ap₂ (λ (m : ℕ) (z : List ℕ). take m (drop (startIn f) z)) n (b .octets) ∙ data-is (tc f) (laws f good) true p (b .rest) (b .rules .stated)
+  reported-data = Any.reported-data (tc f) (laws f good)
 
   -- and they are the only ones.
   pub only : (s : List ℕ) (p q : Telecommand) → BeginsWith (tc f) s p → BeginsWith (tc f) s q → p ≡ q
@@ -96,30 +77,34 @@ module _ (f : TcForm) (good : formCheck f ≡ gives tt) where
   -- 1. The verdict on s is accepted if and only if s begins with the packet of some headers and data under the written rules.
   pub exactly : (s : List ℕ) → Octets s → ((r : PusTcRecord) × (strictIn f s ≡ gives r)) ↔ ((p : Telecommand) × BeginsWith (tc f) s p)
   unfolding strictIn
-  exactly s o = (
-    λ a. let p = then-gives (judge (tc f) s) _ (a .0) (then-gives (formCheck f) _ (a .0) (a .1) .2) in (p .0, sound (tc f) (laws f good) s (p .0) o (p .1)),
-    λ b. (reportFor f (b .0), reports s (b .0) (b .1)),
-  )
+  exactly = Any.exactly (formCheck f) good (tc f) (laws f good) (λ z. recordIn f z true) (reportFor f) reports
 
   -- 7. A packet that only its APID, that of idle packets, sets apart from one under the rules is refused with 12 and nothing else.
   pub idle-refused : (s : List ℕ) (p : Telecommand) → Rules (tc f) p → (rest : List ℕ) → s ≡ packetOf (tc f) (asIdle p) ++ rest → strictIn f s ≡ refuses (refusal 12 [])
   unfolding strictIn
-  idle-refused s p u rest e = gives-then _ _ tt good ∙ refuses-then _ _ _ (idle-judged (tc f) (laws f good) s p u rest e)
+  idle-refused = Any.idle-refused (formCheck f) good (tc f) (laws f good) (λ z. recordIn f z true)
+
+  -- 8. Where the verdict refuses with 4, its two numbers are the checksum that the packet stores and the one of all its octets before,
+  -- and these differ;
+  pub tells : (s : List ℕ) (e : Numbers) → Octets s → strictIn f s ≡ refuses e → Told s e
+  unfolding strictIn
+  tells = Any.tells (formCheck f) good (tc f) (laws f good) (λ z. recordIn f z true)
+
+  -- and so where the ported reader does.
+  pub reader-tells : (s : List ℕ) (e : Numbers) → Octets s → checkedIn f s ≡ refuses e → Told s e
+  reader-tells s e o p = tells s e o (verdict-refused f s e p)
+
+  -- So much is asked of the verdict on s.
+  pub exact : (s : List ℕ) → Octets s → Exact (tc f) (reportFor f) (strictIn f s) s
+  exact s o = record { exactly = exactly s o; reports = reports s; idle = idle-refused s; tells = λ e. tells s e o }
 
   -- 4. Written packets are accepted: whatever write_to_slice in both checksum forms, the builder's path, and the reserved writer
   -- with its finish leave in a buffer, for headers and data under those rules, is accepted, in a buffer of any length that has
   -- room and with anything after it. First write_to_slice, whose two forms have one contract:
   pub written-accepted : (h : SpacePacketHeader) (x : PusTcSecondaryHeader) (d before after : List ℕ) (r : SizeResult)
-      → Rules (tc f) (packetBy h x d) → Room f d before → PacketWrote (creatorIn f h x true) d before r after → Accepted f (packetBy h x d) before r after
-  written-accepted h x d before after r u m w =
-      let n = totalFor f d in
-      let g = rules-write (commandIn f) (writer-laws f good) h x d (length before) u (m .fits) (m .is-slice) in
-      let e = w .left ∙ left-written _ _ _ _ g in
-      record {
-        answers = writes _ _ _ r (Z.Ok n) after _ w (record { answered = sym g; left = refl }) .0;
-        leaves = e;
-        accepted = reports after (packetBy h x d) (record { rules = u; rest = drop n before; octets = e });
-      }
+      → Rules (tc f) (packetBy h x d) → Room (tc f) d before → PacketWrote (creatorIn f h x true) d before r after
+      → Accepted (tc f) (reportFor f) (strictIn f) (packetBy h x d) before r after
+  written-accepted = Any.written-accepted (commandIn f) (writer-laws f good) (reportFor f) (strictIn f) reports
 
   -- Then the builder's path. What construction or the builder makes, of packet version number 0, the form's version and no idle
   -- packet's APID, with the length set and a checksum, is under those rules,
@@ -127,80 +112,43 @@ module _ (f : TcForm) (good : formCheck f ≡ gives tt) where
       → newIn f h x (length d) defaultConfig ≡ gives t → Rules (tc f) (packetBy (t .«sp_header») (t .«sec_header») d)
   made-under-rules h x d t v i c p =
       let a = then-gives (newBy (commandIn f) h x true true (length d)) _ t p in
-      let m = new-handed (commandIn f) (writer-laws f good) h x d (a .0) (a .1) in
-      let k = checked (commandIn f) (writer-laws f good) h x (m .0) in
-      let w = fields-pass f x .0 (k .2) in
-      let g : Handed (tc f) (packetBy h x d) = record { in-range = k .1; version-zero = v; not-idle = i; fits = record { version-is = c; ack-fits = w .0; source-fits = w .1 }; at-most = m .1 } in
-      subst (λ (u : PusTcCreator). Rules (tc f) (packetBy (u .«sp_header») (u .«sec_header») d))
-      (ap (λ (z : SpacePacketHeader). creatorIn f z x true) (sym (m .2)) ∙ gives-inj _ t (a .2))
-      (handed-rules (commandIn f) (writer-laws f good) h x d g)
+      subst (λ (u : PusTcCreator). Rules (tc f) (packetBy (u .«sp_header») (u .«sec_header») d)) (gives-inj _ t (a .2))
+      (Any.made-under-rules (commandIn f) (writer-laws f good) h x d (a .0) v i (version-passes (f .version) (x .version) .1 c) (a .1))
 
   -- and where the fields are in range too they make a creator t, and what t writes is accepted.
-  pub built-accepted : (p : Telecommand) (before : List ℕ) → Handed (tc f) p → Room f (p .user) before
+  pub built-accepted : (p : Telecommand) (before : List ℕ) → Handed (tc f) p → Room (tc f) (p .user) before
       → (t : PusTcCreator) × (newIn f (p .primary) (p .secondary) (length (p .user)) defaultConfig ≡ gives t)
-      × ((r : SizeResult) (after : List ℕ) → PacketWrote t (p .user) before r after → Accepted f (madeOf f p) before r after)
+      × ((r : SizeResult) (after : List ℕ) → PacketWrote t (p .user) before r after → Accepted (tc f) (reportFor f) (strictIn f) (madeOf (commandIn f) p) before r after)
   built-accepted p before g k = (
     creatorIn f (madeBy (commandIn f) (p .primary) (p .user)) (p .secondary) true,
     gives-then _ _ _ (handed-new (commandIn f) (writer-laws f good) (p .primary) (p .secondary) (p .user) g),
     λ r after. written-accepted _ _ (p .user) before after r (handed-rules (commandIn f) (writer-laws f good) (p .primary) (p .secondary) (p .user) g) k,
   )
 
-  -- what a buffer m holds once the data d was filled in where n octets are reserved
-  abbrev filledFrom : ℕ → List ℕ → List ℕ → List ℕ
-  filledFrom n d m = filledBy (fillIn (startIn f) (reservationIn f n true .held) (length m) (length d)) (startIn f) d m
-
   -- Then the reserved writer: it gives a reservation q, and what is filled in there and finished is accepted.
-  pub reserved-accepted : (p : Telecommand) (before : List ℕ) → Handed (tc f) p → Room f (p .user) before
+  pub reserved-accepted : (p : Telecommand) (before : List ℕ) → Handed (tc f) p → Room (tc f) (p .user) before
       → (q : PusTcCreatorWithReservedAppData) × (reserveIn f (p .primary) (p .secondary) (length (p .user)) true (length before) ≡ gives q)
-      × ((r : SizeResult) (after : List ℕ) → FinishedBy f q p before r after → Accepted f (madeOf f p) before r after)
-  reserved-accepted p before g k =
-      let h = p .primary in
-      let x = p .secondary in
-      let d = p .user in
-      let n = totalFor f d in
-      let e = handed-reserve (commandIn f) (writer-laws f good) h x d (length before) g (k .fits) (k .is-slice) in
-      let a = reserved-agrees (commandIn f) (writer-laws f good) h x true d before n (k .is-slice) e in
-      let i : a .header ≡ madeBy (commandIn f) h d = gives-inj _ _ (sym (a .made) ∙ handed-new (commandIn f) (writer-laws f good) h x d g) in (
-        reservationIn f n true,
-        gives-then _ _ _ e,
-        λ r after v.
-            let m = v .fills ∙ ap (filledFrom n d) (v .reserves) in
-            let w = subst (λ (y : List ℕ). Wrote (finishIn (startIn f) (reservationIn f n true .held) (length y)) (finished (reservationIn f n true .held) y) y r after) m (v .finishes) in
-            let z : PacketWrote (creatorIn f (a .header) x true) d before r after = record { answered = w .answered ∙ a .answers ∙ sym (a .writes); left = w .left ∙ a .leaves } in
-            written-accepted (madeBy (commandIn f) h d) x d before after r (handed-rules (commandIn f) (writer-laws f good) h x d g) k
-            (subst (λ (y : SpacePacketHeader). PacketWrote (creatorIn f y x true) d before r after) i z),
-      )
+      × ((r : SizeResult) (after : List ℕ) → FinishedBy (commandIn f) (startIn (q .form)) (q .held) p before r after → Accepted (tc f) (reportFor f) (strictIn f) (madeOf (commandIn f) p) before r after)
+  reserved-accepted p before g k = (
+    reservationIn f (totalFor (tc f) (p .user)) true,
+    gives-then _ _ _ (handed-reserve (commandIn f) (writer-laws f good) (p .primary) (p .secondary) (p .user) (length before) g (k .fits) (k .is-slice)),
+    Any.reserved-accepted (commandIn f) (writer-laws f good) (reportFor f) (strictIn f) reports p before g k,
+  )
 
   -- 5. An accepted s, changed to s′ in an odd number of bits, or in some bits within a run of 16, none of them in octets 4 and 5
   -- and all inside the stated total, is refused, whatever follows the total.
-  pub changed-refused : (s s′ : List ℕ) (r : PusTcRecord) → strictIn f s ≡ gives r → Changed s s′ (statedOf s) → (n : Numbers) × (strictIn f s′ ≡ refuses n)
+  pub changed-refused : (s s′ : List ℕ) → RefusesChanged (strictIn f s) s (strictIn f s′) s′
   unfolding strictIn
-  changed-refused s s′ r a c =
-      let p = then-gives (judge (tc f) s) _ r (then-gives (formCheck f) _ r a .2) in
-      let n = refused (tc f) s s′ (p .0) (p .1) c in
-      (n .0, gives-then _ _ tt good ∙ refuses-then _ _ _ (n .1))
+  changed-refused = Any.changed-refused (formCheck f) good (tc f) (laws f good) (λ z. recordIn f z true)
 
   -- 6. What the verdict accepts, read and written again, is the same octets.
   pub written-again : (s : List ℕ) (r : PusTcRecord) → Octets s → strictIn f s ≡ gives r
       → take (r .total) s ≡ packetOf (tc f) (packetBy (r .«sp_header») (r .«sec_header») (appDataIn f s true))
-  written-again s r o a =
-      let b = exactly s o .0 (r, a) in
-      let p = b .0 in
-      let e : reportFor f p ≡ r = gives-inj _ r (sym (reports s p (b .1)) ∙ a) in
-      let d = reader-reports s p (b .1) .2 in
-      ap (λ (n : ℕ). take n s) (ap (λ (q : PusTcRecord). q .total) (sym e) ∙ sym (total-is (tc f) (laws f good) s p (b .1)))
-      ∙ rewritten (tc f) (laws f good) s p o (complete (tc f) (laws f good) s p (b .1))
-      ∙ (λ i. packetOf (tc f) (packetBy (e i .«sp_header») (e i .«sec_header») (sym d i)))
-
-  -- 8. Where the verdict refuses with 4, its two numbers are the checksum that the packet stores and the one of all its octets before,
-  -- and these differ;
-  pub tells : (s : List ℕ) (e : Numbers) → Octets s → strictIn f s ≡ refuses e → Told s e
   unfolding strictIn
-  tells s e o p = told (tc f) (laws f good) s o e (then-refused (judge (tc f) s) (λ _. recordIn f s true (statedOf s)) e (sym (gives-then _ _ tt good) ∙ p))
-
-  -- and so where the ported reader does.
-  pub reader-tells : (s : List ℕ) (e : Numbers) → Octets s → checkedIn f s ≡ refuses e → Told s e
-  reader-tells s e o p = tells s e o (verdict-refused f s e p)
+  written-again =
+      Any.written-again (formCheck f) good (tc f) (laws f good) (λ z. recordIn f z true) (reportFor f) reports
+      (λ (r : PusTcRecord). r .total) (λ p. refl)
+      (λ s r. packetBy (r .«sp_header») (r .«sec_header») (appDataIn f s true)) (λ s p b. ap (packetBy (p .primary) (p .secondary)) (reader-reports s p b .2))
 
 -- ---- the editions: each theorem at PUS C, and at PUS A with each width that is taken; theorem 1 of both
 

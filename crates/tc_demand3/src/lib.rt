@@ -10,11 +10,14 @@ ghost use Rattle.ecss.specs.Kind.{Rules};
 ghost use Rattle.ecss_write.specs.Writer.{packetBy, Handed};
 ghost use Rattle.reserve.specs.Reserve.{finishIn, finished};
 ghost use Rattle.space_packet.specs.Answer.{gives};
+ghost use Rattle.exactness.specs.Demand3.{RefusesChanged, Exact, Fits, madeOf};
 ghost use Rattle.tc_header.specs.Form.{formCheck};
 ghost use Rattle.tc_header.specs.Header.{tc};
+ghost use Rattle.tc_write.specs.Command.{commandIn};
 ghost use Rattle.tc_write.specs.Creator.{PacketWrote};
 ghost use Rattle.tc_read.specs.Read.{startIn};
-ghost use Rattle.tc_demand3.specs.Rules.{madeOf, Fits, Accepts, Exact, RefusesChanged};
+ghost use Rattle.tc_strict.specs.Verdict.{verdictAnswer};
+ghost use Rattle.tc_demand3.specs.Rules.{reportFor, Accepts};
 use space_packet::SizeResult;
 use space_packet::SpHeader;
 use tc_header::PusTcSecondaryHeader;
@@ -29,7 +32,7 @@ use tc_write::PusTcCreatorResult;
 // ---- theorems 1, 2, 7 and 8: octets are judged
 
 fn judged(form: TcForm, octets: &[u8]) -> Verdict
-    ensures { λ v. ⌜ (formCheck form ≡ gives tt → Exact form v (now (octets .entry))) ⌝ }
+    ensures { λ v. ⌜ (formCheck form ≡ gives tt → Exact (tc form) (reportFor form) (verdictAnswer v) (now (octets .entry))) ⌝ }
 {
     tc_strict::judge_in(form, octets)
 }
@@ -57,7 +60,7 @@ fn finish(held: PusTcCreatorWithReservedAppData, buf: &mut [u8], table: bool) ->
 fn written(creator: PusTcCreator, app_data: &[u8], buf: &mut [u8], table: bool) -> Verdict
     ensures { λ v. ⌜ (formCheck (creator .form) ≡ gives tt → creator .«has_checksum» ≡ true
         → Rules (tc (creator .form)) (packetBy (creator .«sp_header») (creator .«sec_header») (now («app_data» .entry)))
-        → Fits (creator .form) (now («app_data» .entry)) (now (buf .entry))
+        → Fits (tc (creator .form)) (now («app_data» .entry)) (now (buf .entry))
         → Accepts (creator .form) v (packetBy (creator .«sp_header») (creator .«sec_header») (now («app_data» .entry)))) ⌝ }
 {
     write(creator, app_data, buf, table);
@@ -67,8 +70,8 @@ fn written(creator: PusTcCreator, app_data: &[u8], buf: &mut [u8], table: bool) 
 fn built(builder: PusTcBuilder, app_data: &[u8], buf: &mut [u8], table: bool) -> Verdict
     ensures { λ v. ⌜ (formCheck (builder .0 .form) ≡ gives tt → builder .0 .«has_checksum» ≡ true
         → Handed (tc (builder .0 .form)) (packetBy (builder .0 .«sp_header») (builder .0 .«sec_header») (now («app_data» .entry)))
-        → Fits (builder .0 .form) (now («app_data» .entry)) (now (buf .entry))
-        → Accepts (builder .0 .form) v (madeOf (builder .0 .form) (packetBy (builder .0 .«sp_header») (builder .0 .«sec_header») (now («app_data» .entry))))) ⌝ }
+        → Fits (tc (builder .0 .form)) (now («app_data» .entry)) (now (buf .entry))
+        → Accepts (builder .0 .form) v (madeOf (commandIn (builder .0 .form)) (packetBy (builder .0 .«sp_header») (builder .0 .«sec_header») (now («app_data» .entry))))) ⌝ }
 {
     let made = builder.build(app_data);
     match made {
@@ -86,8 +89,8 @@ fn reserved(
     table: bool,
 ) -> Verdict
     ensures { λ v. ⌜ (formCheck form ≡ gives tt → Handed (tc form) (packetBy «sp_header» «sec_header» (now («app_data» .entry)))
-        → Fits form (now («app_data» .entry)) (now (buf .entry))
-        → Accepts form v (madeOf form (packetBy «sp_header» «sec_header» (now («app_data» .entry))))) ⌝ }
+        → Fits (tc form) (now («app_data» .entry)) (now (buf .entry))
+        → Accepts form v (madeOf (commandIn form) (packetBy «sp_header» «sec_header» (now («app_data» .entry))))) ⌝ }
 {
     let made = PusTcCreatorWithReservedAppData::new_in(
         form,
@@ -115,7 +118,7 @@ struct Verdicts {
 }
 
 fn changed(form: TcForm, sent: &[u8], received: &[u8]) -> Verdicts
-    ensures { λ r. ⌜ (formCheck form ≡ gives tt → RefusesChanged (r .sent) (now (sent .entry)) (r .received) (now (received .entry))) ⌝ }
+    ensures { λ r. ⌜ (formCheck form ≡ gives tt → RefusesChanged (verdictAnswer (r .sent)) (now (sent .entry)) (verdictAnswer (r .received)) (now (received .entry))) ⌝ }
 {
     let first = tc_strict::judge_in(form, sent);
     let second = tc_strict::judge_in(form, received);

@@ -9,15 +9,11 @@ use native.Mathlib.Nat.{mod-eq-of-lt}
 use lib.Dec.{eqb}
 use lib.ListN.{length, getD, take, drop, set, drop-of-length-le, take-append-drop}
 use lib.Seq.{drop-cons, drop-drop, take-at, drop-at, sets-eq}
-use borrow.Author.Tests.{eqb-true, not-false, lt-ltb, le-ltb, ltb-false}
+use borrow.Author.Tests.{eqb-true, not-false, lt-ltb, le-ltb}
 use Rattle.space_packet.specs.Bits.{be16, word}
 use Rattle.space_packet.specs.Answer.{gives, refuses, refusal}
-use Rattle.space_packet.proofs.Answers.{refuse-no, refuse-yes, refuse-gives}
+use Rattle.space_packet.proofs.Answers.{refuse-no, refuse-yes, refuse-gives, range-passes}
 use Rattle.ecss.specs.Frame.{Octets}
-use Rattle.ecss.specs.Kind.{secondaryOf}
-use Rattle.ecss.specs.Version.{versionNumber}
-use Rattle.ecss.specs.declared.PusVersion.{PusVersion}
-use Rattle.ecss.specs.declared.PusVersion.the-variants.{EsaPus, PusA, PusC}
 use Rattle.tc_header.specs.Form.{formC, isWidth, formCheck, sourceLen, sourceOctets, sourceAt, SourceFits, sourceCheck}
 use Rattle.tc_header.specs.declared.TcForm.{TcForm}
 
@@ -94,8 +90,8 @@ source-back (suc (suc (suc n))) l h o e = absurd (omega arith)
 
 -- it passes where it is within its width, and only there
 pub source-passes : (n v : ℕ) → (sourceCheck n v ≡ gives tt) ↔ SourceFits n v
-source-passes zero v = (λ p. ltb-false _ _ (refuse-gives _ _ _ _ p .0), λ h. refuse-no _ _ _ (le-ltb 0 v h))
-source-passes (suc zero) v = (λ p. ltb-false _ _ (refuse-gives _ _ _ _ p .0), λ h. refuse-no _ _ _ (le-ltb 255 v h))
+source-passes zero v = range-passes 5 0 v
+source-passes (suc zero) v = range-passes 5 255 v
 source-passes (suc (suc n)) v = (λ p. tt, λ h. refl)
 
 -- ---- the source ID in code, which compares the octets with one
@@ -139,16 +135,3 @@ pub behind-three : (n : ℕ) (m s t o : List ℕ) → length t ≡ 3 → s ≡ t
 behind-three n m s t o e p =
     ap₂ (λ (y z : List ℕ). y ++ o ++ z) (ap (take 3) p ∙ take-at t (drop 3 m) 3 e)
     (sym (drop-drop n 3 s) ∙ ap (λ (y : List ℕ). drop n (drop 3 y)) p ∙ ap (drop n) (drop-at t (drop 3 m) 3 e) ∙ drop-drop n 3 m)
-
-pub version-le : (v : PusVersion) → versionNumber v ≤ 2
-version-le EsaPus = omega arith
-version-le PusA = omega arith
-version-le PusC = omega arith
-
-nothing : (n : ℕ) → take {A = ℕ} n [] ≡ []
-nothing zero = refl
-nothing (suc n) = refl
-
--- fewer octets than a primary header leave none for a secondary one
-pub none-left : (n : ℕ) (s : List ℕ) → length s < 6 → secondaryOf n s ≡ []
-none-left n s h = let e : length s ≤ 6 = omega arith in ap (take n) (drop-of-length-le s e) ∙ nothing n

@@ -2,14 +2,14 @@
 -- the data field header of telecommand packets.
 use Prim.Native.Nat.{ℕ, _+_, _*_, _/_, _%_, _≤_}
 use mathlib.Core.Path.{_≡_}
-use mathlib.Core.Bool.{Bool, not, _&&_}
+use mathlib.Core.Bool.{Bool, _&&_}
 use mathlib.Core.List.{List, [], _∷_, _++_}
 use lib.ListN.{length, getD}
 use lib.Dec.{eqb, ltb}
 use Rattle.space_packet.specs.Bits.{bits, flagNumber}
 use Rattle.space_packet.specs.Answer.{Answer, Passed, refusal, gives, refuses, refuseIf, _then_, inRange, numbersOf, inBuffer}
 use Rattle.space_packet.specs.declared.PacketType.the-variants.{Tc}
-use Rattle.ecss.specs.Version.{versionNumber}
+use Rattle.ecss.specs.Version.{versionNumber, versionIs, messageAt}
 use Rattle.ecss.specs.Kind.{Kind}
 use Rattle.ecss.specs.declared.MessageTypeId.{MessageTypeId}
 use Rattle.ecss.specs.declared.PusVersion.{PusVersion}
@@ -72,9 +72,6 @@ secOctets = tcOctets formC
 abbrev pub secFrom : MessageTypeId → AckFlags → ℕ → PusVersion → PusTcSecondaryHeader
 secFrom m a n v = record { «message_type_id» = m; «source_id» = n; «ack_flags» = a; version = v }
 
-abbrev pub messageAt : List ℕ → MessageTypeId
-messageAt l = record { «type_id» = getD l 1 0; «subtype_id» = getD l 2 0 }
-
 -- the header that octets are; its version is always reported as the form's
 unfoldable pub tcOf : TcForm → List ℕ → PusTcSecondaryHeader
 tcOf f l = secFrom (messageAt l) (ackOf (getD l 0 0 % 16)) (sourceAt (sourceLen f) l) (f .version)
@@ -86,7 +83,7 @@ secOf = tcOf formC
 
 -- only the form's version is written
 abbrev pub versionIn : TcForm → PusVersion → Passed
-versionIn f v = refuseIf (not (eqb (versionNumber v) (versionNumber (f .version)))) (refusal 3 (versionNumber v ∷ [])) (gives tt)
+versionIn f = versionIs (f .version)
 
 abbrev pub versionCheck : PusVersion → Passed
 versionCheck = versionIn formC

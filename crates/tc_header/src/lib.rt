@@ -3,7 +3,7 @@
 ghost use mathlib.Core.Path.{_≡_};
 ghost use mathlib.Core.List.{_++_};
 ghost use Prim.Native.Nat.{_+_, _*_, _/_, _%_, _<_, _≤_};
-ghost use lib.ListN.{length, getD, take, drop};
+ghost use lib.ListN.{length, take, drop};
 ghost use Rattle.space_packet.specs.Bits.{lowest};
 ghost use Rattle.space_packet.specs.Answer.{gives, _then_, inRange, checkAnswer};
 ghost use Rattle.space_packet.specs.Wrote.{Wrote};
@@ -109,10 +109,7 @@ impl TcForm {
     pub fn sec_header_part(self, packet: &[u8]) -> &[u8]
         ensures { λ r. ⌜ now r ≡ secondaryOf (tc self .size) (now (packet .entry)) ⌝ }
     {
-        if packet.len() < CCSDS_HEADER_LEN {
-            return &packet[..0];
-        }
-        frame::front(&packet[CCSDS_HEADER_LEN..], self.sec_header_len())
+        frame::sec_header_part(packet, self.sec_header_len())
     }
 
     // Whether the edition and the width are the same.
@@ -401,12 +398,8 @@ impl PusTcSecondaryHeader {
         ensures { λ r. ⌜ checkAnswer r ≡ versionIn form (self .version) ⌝ }
     {
         let version = self.version;
-        let number = version.raw_value();
         let own = form.version;
-        if number != own.raw_value() {
-            return CheckResult::Err(PusError::VersionNotSupported(number));
-        }
-        CheckResult::Ok
+        version.check(own)
     }
 
     // What a setter and a write ask of its fields: 7 where one is over its width.
@@ -535,16 +528,6 @@ impl PusTcSecondaryHeader {
     }
 }
 
-// The first octet; 0 where there is none.
-fn first_octet(s: &[u8]) -> u8
-    ensures { λ r. ⌜ r ≡ getD (now (s .entry)) 0 0 ⌝ }
-{
-    if s.len() == 0 {
-        return 0;
-    }
-    s[0]
-}
-
 // The strict checks of a telecommand, on its primary header and its secondary header's octets; 9, 10, 11, 3, 12.
 pub fn strict_rule(form: TcForm, h: SpHeader, second: &[u8]) -> CheckResult
     ensures { λ r. ⌜ checkAnswer r ≡ strictRule (tc form) h (now (second .entry)) ⌝ }
@@ -555,6 +538,6 @@ pub fn strict_rule(form: TcForm, h: SpHeader, second: &[u8]) -> CheckResult
         PusError::PacketTypeTm,
         edition.raw_value(),
         h,
-        first_octet(second),
+        space_packet::octet_at(second, 0),
     )
 }

@@ -10,14 +10,14 @@ use Rattle.space_packet.specs.Bits.{word}
 use Rattle.space_packet.specs.Answer.{Numbers, Answer, refusal, gives, refuses}
 use Rattle.space_packet.specs.Header.{readHeader}
 use Rattle.space_packet.proofs.Answers.{refuse-yes, gives-then, refuses-then}
-use Rattle.ecss.specs.Frame.{trailer, frameOf, rawPart, dataPart, sameOctets}
+use Rattle.ecss.specs.Frame.{trailer, frameOf, crcTaken, rawPart, dataPart, sameOctets, isRead}
 use Rattle.ecss.proofs.Frames.{frame-total, total-frame}
 use Rattle.tc_header.specs.Form.{formC}
 use Rattle.tc_header.specs.Header.{tcOf}
 use Rattle.tc_write.specs.declared.PusTcCreator.{PusTcCreator}
-use Rattle.tc_read.specs.Read.{startC, recordIn, crcTaken, frameIn, readIn, readOf, appData, rawData}
+use Rattle.tc_read.specs.Read.{startC, recordIn, frameIn, readIn, readOf, appData, rawData}
 use Rattle.tc_read.proofs.Records.{frame-c}
-use Rattle.tc_compare.specs.Compare.{isRead, reportsCreator, equalsCreator, equalsReader}
+use Rattle.tc_compare.specs.Compare.{reportsCreator, equalsCreator, equalsReader}
 use Rattle.ecss.specs.declared.Crc16.the-variants.{Some}
 use Rattle.tc_held.specs.Held.{Held, primaryIn, secondaryIn, heldOf}
 

@@ -1,18 +1,14 @@
 -- Telecommands read, over their form: what is reported of octets, and the parts handed out.
-use Prim.Native.Nat.{ℕ, _+_, _-_, _≤_}
-use mathlib.Core.Path.{_≡_}
-use mathlib.Core.Bool.{Bool, true, false}
+use Prim.Native.Nat.{ℕ, _-_}
+use mathlib.Core.Bool.{Bool, true}
 use mathlib.Core.List.{List}
-use lib.ListN.{length}
 use Rattle.space_packet.specs.Answer.{Answer, gives, refuses, _then_, numbersOf}
 use Rattle.space_packet.specs.Header.{readHeader}
-use Rattle.ecss.specs.Frame.{trailer, frameOf, checkedOf, storedOf, rawPart, dataPart}
+use Rattle.ecss.specs.Frame.{trailer, frameAfter, checkedAfter, crcTaken, rawPart, dataPart}
 use Rattle.ecss.specs.Kind.{secondaryOf, startOf}
 use Rattle.tc_header.specs.Form.{formC, formCheck}
 use Rattle.tc_header.specs.Header.{tcOf, tc}
 use Rattle.tc_header.specs.declared.TcForm.{TcForm}
-use Rattle.ecss.specs.declared.Crc16.{Crc16}
-use Rattle.ecss.specs.declared.Crc16.the-variants.{Some, None}
 use Rattle.tc_read.specs.declared.PusTcRecord.{PusTcRecord}
 use Rattle.tc_read.specs.declared.PusTcRecordResult.{PusTcRecordResult}
 use Rattle.tc_read.specs.declared.PusTcRecordResult.the-variants as R
@@ -23,21 +19,6 @@ startIn f = startOf (tc f)
 
 abbrev pub startC : ℕ
 startC = startIn formC
-
--- the checksum of a packet of n octets, where it is taken
-abbrev pub crcTaken : Bool → List ℕ → ℕ → Crc16
-crcTaken true s n = Some (storedOf s n)
-crcTaken false s n = None
-
-abbrev pub hasCrc : Crc16 → Bool
-hasCrc (Some n) = true
-hasCrc None = false
-
--- octets that hold a packet of n octets of a form that is taken
-pub record Framed (f : TcForm) (b : Bool) (s : List ℕ) (n : ℕ) : Type 0 where
-  pub good : formCheck f ≡ gives tt
-  pub room : startIn f + trailer b ≤ n
-  pub fits : n ≤ length s
 
 -- what is reported of a packet of n octets: both headers, where its data lies, its total, and the checksum where it is taken
 unfoldable pub recordIn : TcForm → List ℕ → Bool → ℕ → PusTcRecord
@@ -55,11 +36,11 @@ recordAnswer (R.Ok r) = gives r
 recordAnswer (R.Err e) = refuses (numbersOf e)
 
 -- the total of the packet that octets begin with, for the choice of checksum: 32, 2; and where it is compared: 32, 2, 4
-unfoldable pub frameIn : TcForm → List ℕ → Bool → Answer ℕ
-frameIn f s b = formCheck f then λ _. frameOf (startIn f) s b
+abbrev pub frameIn : TcForm → List ℕ → Bool → Answer ℕ
+frameIn f s b = frameAfter (formCheck f) (startIn f) s b
 
-unfoldable pub checkedFrame : TcForm → List ℕ → Answer ℕ
-checkedFrame f s = formCheck f then λ _. checkedOf (startIn f) s
+abbrev pub checkedFrame : TcForm → List ℕ → Answer ℕ
+checkedFrame f s = checkedAfter (formCheck f) (startIn f) s
 
 -- read with the choice of checksum, which is taken and not compared
 unfoldable pub readIn : TcForm → List ℕ → Bool → Answer PusTcRecord

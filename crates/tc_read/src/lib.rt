@@ -2,18 +2,18 @@
 // that are handed out without a copy. The calls named after the Rust read PUS C; their siblings, which end in `_in`, take a form.
 ghost use mathlib.Core.Path.{_≡_};
 ghost use mathlib.Core.Bool.{false};
-ghost use Prim.Native.Nat.{_≤_};
 ghost use lib.Dec.{eqb};
 ghost use Rattle.space_packet.specs.Fields.{typeNumber, idRaw, pscRaw};
 ghost use Rattle.space_packet.specs.Header.{packetLen};
-ghost use Rattle.tc_read.specs.Read.{Framed, recordIn, recordAnswer, readIn, readOf, checkedIn, checkedRead, appDataIn, appData, rawDataIn, rawData, crcTaken, hasCrc};
+ghost use Rattle.ecss.specs.Frame.{Framed, hasCrc};
+ghost use Rattle.tc_header.specs.Form.{formCheck};
+ghost use Rattle.tc_read.specs.Read.{startIn, recordIn, recordAnswer, readIn, readOf, checkedIn, checkedRead, appDataIn, appData, rawDataIn, rawData};
 pub use ecss::Crc16;
 use ecss::MessageTypeId;
 use ecss::PusError;
 use ecss::PusVersion;
 use ecss::frame;
 use space_packet::Apid;
-use space_packet::CheckResult;
 use space_packet::PacketId;
 use space_packet::PacketSequenceControl;
 use space_packet::PacketType;
@@ -44,17 +44,6 @@ pub enum PusTcRecordResult {
     Err(PusError),
 }
 
-// The checksum that a packet of `total` octets stores, where it is taken.
-fn crc_taken(slice: &[u8], total: usize, has_checksum: bool) -> Crc16
-    requires { ⌜ 2 ≤ total ⌝ }
-    ensures { λ r. ⌜ r ≡ crcTaken «has_checksum» (now (slice .entry)) total ⌝ }
-{
-    if has_checksum {
-        return Crc16::Some(space_packet::word_at(slice, total - 2));
-    }
-    Crc16::None
-}
-
 impl PusTcRecord {
     // The checksum is taken and compared: reads the packet that octets begin with; 2, 4.
     pub fn new(slice: &[u8]) -> PusTcRecordResult
@@ -66,11 +55,7 @@ impl PusTcRecord {
     pub fn new_in(form: TcForm, slice: &[u8]) -> PusTcRecordResult
         ensures { λ r. ⌜ recordAnswer r ≡ checkedIn form (now (slice .entry)) ⌝ }
     {
-        let c = form.check();
-        if let CheckResult::Err(e) = c {
-            return PusTcRecordResult::Err(e);
-        }
-        let f = frame::checked(slice, form.min_len_without_app_data());
+        let f = frame::checked_after(form.check(), slice, form.min_len_without_app_data());
         match f {
             SizeResult::Err(refusal) => PusTcRecordResult::Err(refusal),
             SizeResult::Ok(total) => PusTcRecord::of(form, slice, total, true),
@@ -110,11 +95,12 @@ impl PusTcRecord {
     ) -> PusTcRecordResult
         ensures { λ r. ⌜ recordAnswer r ≡ readIn form (now (slice .entry)) «has_checksum» ⌝ }
     {
-        let c = form.check();
-        if let CheckResult::Err(e) = c {
-            return PusTcRecordResult::Err(e);
-        }
-        let f = frame::frame_of(slice, form.min_len_without_app_data(), has_checksum);
+        let f = frame::frame_after(
+            form.check(),
+            slice,
+            form.min_len_without_app_data(),
+            has_checksum,
+        );
         match f {
             SizeResult::Err(e) => PusTcRecordResult::Err(e),
             SizeResult::Ok(total) => PusTcRecord::of(form, slice, total, has_checksum),
@@ -123,7 +109,7 @@ impl PusTcRecord {
 
     // The record of a packet of `total` octets.
     fn of(form: TcForm, slice: &[u8], total: usize, has_checksum: bool) -> PusTcRecordResult
-        requires { ⌜ Framed form «has_checksum» (now slice) total ⌝ }
+        requires { ⌜ Framed (formCheck form) (startIn form) «has_checksum» (now slice) total ⌝ }
         ensures { λ r. ⌜ r ≡ PusTcRecordResult.Ok (recordIn form (now (slice .entry)) «has_checksum» total) ⌝ }
     {
         let header = SpHeader::from_be_bytes(slice);
@@ -138,7 +124,7 @@ impl PusTcRecord {
                     SecHeaderResult::Err(e) => PusTcRecordResult::Err(e),
                     SecHeaderResult::Ok(sec_header) => {
                         let end = total - frame::trailer_len(has_checksum);
-                        let crc16 = crc_taken(slice, total, has_checksum);
+                        let crc16 = frame::crc_taken(slice, total, has_checksum);
                         let start = form.min_len_without_app_data();
                         PusTcRecordResult::Ok(PusTcRecord {
                             sp_header,
@@ -353,11 +339,12 @@ pub fn app_data(slice: &[u8], has_checksum: bool) -> &[u8]
 pub fn app_data_in(form: TcForm, slice: &[u8], has_checksum: bool) -> &[u8]
     ensures { λ r. ⌜ now r ≡ appDataIn form (now (slice .entry)) «has_checksum» ⌝ }
 {
-    let c = form.check();
-    match c {
-        CheckResult::Err(_) => &slice[..0],
-        CheckResult::Ok => frame::data_part(slice, form.min_len_without_app_data(), has_checksum),
-    }
+    frame::data_part(
+        form.check(),
+        slice,
+        form.min_len_without_app_data(),
+        has_checksum,
+    )
 }
 
 // The whole packet; the empty part where the read is refused.
@@ -370,9 +357,10 @@ pub fn raw_data(slice: &[u8], has_checksum: bool) -> &[u8]
 pub fn raw_data_in(form: TcForm, slice: &[u8], has_checksum: bool) -> &[u8]
     ensures { λ r. ⌜ now r ≡ rawDataIn form (now (slice .entry)) «has_checksum» ⌝ }
 {
-    let c = form.check();
-    match c {
-        CheckResult::Err(_) => &slice[..0],
-        CheckResult::Ok => frame::raw_part(slice, form.min_len_without_app_data(), has_checksum),
-    }
+    frame::raw_part(
+        form.check(),
+        slice,
+        form.min_len_without_app_data(),
+        has_checksum,
+    )
 }

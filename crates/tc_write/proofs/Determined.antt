@@ -6,14 +6,12 @@ use Rattle.space_packet.specs.Answer.{Kept}
 use Rattle.space_packet.proofs.Answers.{by-inverse, resultOf, error-back}
 use Rattle.space_packet.specs.declared.SizeResult.{SizeResult}
 use Rattle.space_packet.proofs.Determined.{check-inj, writes}
-use Rattle.tc_write.specs.Creator.{creatorAnswer, creatorKept, checksumAnswer, PacketWrote, ContentWrote}
+use Rattle.tc_write.specs.Creator.{creatorAnswer, creatorKept, PacketWrote, ContentWrote}
 use Rattle.tc_write.specs.Builder.{builderAnswer, builderKept}
 use Rattle.tc_write.specs.declared.PusTcCreator.{PusTcCreator}
 use Rattle.tc_write.specs.declared.PusTcCreatorSet.{PusTcCreatorSet}
 use Rattle.tc_write.specs.declared.PusTcCreatorResult.{PusTcCreatorResult}
 use Rattle.tc_write.specs.declared.PusTcCreatorResult.the-variants as T
-use Rattle.tc_write.specs.declared.ChecksumResult.{ChecksumResult}
-use Rattle.tc_write.specs.declared.ChecksumResult.the-variants as K
 use Rattle.tc_write.specs.declared.PusTcBuilder.{PusTcBuilder}
 use Rattle.tc_write.specs.declared.PusTcBuilderSet.{PusTcBuilderSet}
 use Rattle.tc_write.specs.declared.PusTcBuilderResult.{PusTcBuilderResult}
@@ -26,10 +24,6 @@ creator-inj = by-inverse creatorAnswer (resultOf T.Ok T.Err) (elim [ T.Ok t ↦ 
 pub builder-inj : (x y : PusTcBuilderResult) → builderAnswer x ≡ builderAnswer y → x ≡ y
 unfolding resultOf
 builder-inj = by-inverse builderAnswer (resultOf B.Ok B.Err) (elim [ B.Ok b ↦ refl | B.Err e ↦ ap B.Err (error-back e) ])
-
-pub checksum-inj : (x y : ChecksumResult) → checksumAnswer x ≡ checksumAnswer y → x ≡ y
-unfolding resultOf
-checksum-inj = by-inverse checksumAnswer (resultOf K.Ok K.Err) (elim [ K.Ok n ↦ refl | K.Err e ↦ ap K.Err (error-back e) ])
 
 pub creator-kept-inj : (x y : PusTcCreatorSet) → creatorKept x ≡ creatorKept y → x ≡ y
 creator-kept-inj x y p =

@@ -1,57 +1,52 @@
 -- Creators with their data are the same, by the call, where both are equal and only there.
-use mathlib.Core.Path.{_≡_, refl, sym, ap, ap₂, _∙_}
-use mathlib.Core.Bool.{true, _&&_, and-eq-true-iff}
+use mathlib.Core.Path.{_≡_, ap}
+use mathlib.Core.Bool.{Bool, true}
 use mathlib.Core.List.{List}
 use mathlib.Core.Logic.{_↔_}
 use Prim.Native.Nat.{ℕ}
+use lib.Dec.{eqb}
 use borrow.Author.Tests.{eqb-true, eq-eqb}
-use Rattle.space_packet.specs.Bits.{lowest, flagNumber}
-use Rattle.space_packet.proofs.Answers.{by-inverse}
-use Rattle.space_packet.proofs.Numbers.{flag-back}
-use Rattle.space_packet.proofs.Same.{same-header}
+use Rattle.space_packet.specs.declared.SpacePacketHeader.{SpacePacketHeader}
+use Rattle.space_packet.proofs.Same.{same-header, both, same-number, same-flag}
 use Rattle.ecss.proofs.Octets.{same-octets}
 use Rattle.ecss.specs.Version.{versionNumber}
+use Rattle.ecss.specs.declared.PusVersion.{PusVersion}
 use Rattle.tc_header.specs.Form.{sameForm}
+use Rattle.tc_header.specs.declared.PusTcSecondaryHeader.{PusTcSecondaryHeader}
 use Rattle.tc_header.specs.declared.TcForm.{TcForm}
-use Rattle.tc_header.proofs.Checks.{version-inj}
+use Rattle.ecss.proofs.Versions.{version-told}
 use Rattle.tc_header.proofs.Same.{same-sec}
-use Rattle.tc_write.specs.Creator.{sameCreator}
+use Rattle.tc_write.specs.Creator.{creatorIn, sameCreator}
 use Rattle.tc_write.specs.declared.PusTcCreator.{PusTcCreator}
+
+same-version : (v w : PusVersion) → (eqb (versionNumber v) (versionNumber w) ≡ true) ↔ (v ≡ w)
+same-version v w = (λ p. version-told v w (eqb-true _ _ p), λ e. eq-eqb _ _ (ap versionNumber e))
 
 -- forms are the same where they are equal, and only there
 pub same-form : (f g : TcForm) → (sameForm f g ≡ true) ↔ (f ≡ g)
 unfolding sameForm
-same-form f g = (
-  λ p.
-      let a = and-eq-true-iff _ _ .0 p in
-      let v = version-inj (f .version) (g .version) (eqb-true _ _ (a .0)) in
-      let w = eqb-true (f .«source_width») _ (a .1) in
-      λ i. record { version = v i; «source_width» = w i },
-  λ e.
-      let v = eq-eqb _ _ (ap (λ (k : TcForm). versionNumber (k .version)) e) in
-      let w = eq-eqb _ _ (ap (λ (k : TcForm). k .«source_width») e) in
-      ap₂ _&&_ v w,
-)
+same-form f g =
+    let k = both _ _ (same-version (f .version) (g .version)) (same-number (f .«source_width») (g .«source_width»)) in (
+      λ p. let e = k .0 p in λ i. record { version = e .0 i; «source_width» = e .1 i },
+      λ e. k .1 (ap (λ (z : TcForm). z .version) e, ap (λ (z : TcForm). z .«source_width») e),
+    )
 
-equal-parts : (t : PusTcCreator) (d : List ℕ) (u : PusTcCreator) (e : List ℕ) → sameCreator t d u e ≡ true → (t ≡ u) × (d ≡ e)
-unfolding sameCreator
-equal-parts t d u e p =
-    let m = and-eq-true-iff _ _ .0 p in
-    let a = and-eq-true-iff _ _ .0 (m .1) in
-    let b = and-eq-true-iff _ _ .0 (a .1) in
-    let c = and-eq-true-iff _ _ .0 (b .1) in
-    let g = same-form (t .form) (u .form) .0 (m .0) in
-    let h = same-header (t .«sp_header») (u .«sp_header») .0 (a .0) in
-    let x = same-sec (t .«sec_header») (u .«sec_header») .0 (b .0) in
-    let f = by-inverse flagNumber lowest flag-back _ _ (eqb-true _ _ (c .1)) in
-    (λ i. record { form = g i; «sp_header» = h i; «sec_header» = x i; «has_checksum» = f i }, same-octets d e .0 (c .0))
+module _ (t : PusTcCreator) (d : List ℕ) (u : PusTcCreator) (e : List ℕ) where
+  parts : (sameCreator t d u e ≡ true)
+      ↔ ((t .form ≡ u .form) × ((t .«sp_header» ≡ u .«sp_header») × ((t .«sec_header» ≡ u .«sec_header») × ((d ≡ e) × (t .«has_checksum» ≡ u .«has_checksum»)))))
+  unfolding sameCreator
+  parts =
+      both _ _ (same-form (t .form) (u .form))
+      (both _ _ (same-header (t .«sp_header») (u .«sp_header»))
+      (both _ _ (same-sec (t .«sec_header») (u .«sec_header»))
+      (both _ _ (same-octets d e) (same-flag (t .«has_checksum») (u .«has_checksum»)))))
 
-same-itself : (t : PusTcCreator) (d : List ℕ) → sameCreator t d t d ≡ true
-unfolding sameCreator
-same-itself t d =
-    ap₂ _&&_ (same-form _ _ .1 refl)
-    (ap₂ _&&_ (same-header _ _ .1 refl)
-    (ap₂ _&&_ (same-sec _ _ .1 refl) (ap₂ _&&_ (same-octets d d .1 refl) (eq-eqb (flagNumber (t .«has_checksum»)) _ refl))))
-
-pub same-creator : (t : PusTcCreator) (d : List ℕ) (u : PusTcCreator) (e : List ℕ) → (sameCreator t d u e ≡ true) ↔ ((t ≡ u) × (d ≡ e))
-same-creator t d u e = (equal-parts t d u e, λ p. ap₂ (sameCreator t d) (sym (p .0)) (sym (p .1)) ∙ same-itself t d)
+  pub same-creator : (sameCreator t d u e ≡ true) ↔ ((t ≡ u) × (d ≡ e))
+  same-creator = (
+    λ p.
+        let k = parts .0 p in
+        (λ i. creatorIn (k .0 i) (k .1 .0 i) (k .1 .1 .0 i) (k .1 .1 .1 .1 i), k .1 .1 .1 .0),
+    λ p.
+        let q = p .0 in
+        parts .1 (λ i. q i .form, (λ i. q i .«sp_header», (λ i. q i .«sec_header», (p .1, λ i. q i .«has_checksum»)))),
+  )

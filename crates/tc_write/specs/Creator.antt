@@ -4,7 +4,7 @@ use mathlib.Core.Bool.{Bool, _&&_}
 use mathlib.Core.List.{List}
 use lib.Dec.{eqb}
 use lib.ListN.{length}
-use Rattle.space_packet.specs.Bits.{pick, flagNumber}
+use Rattle.space_packet.specs.Bits.{flagNumber}
 use Rattle.space_packet.specs.Answer.{Answer, Kept, gives, refuses, _then_, numbersOf, checkAnswer}
 use Rattle.space_packet.specs.Header.{sameHeader}
 use Rattle.space_packet.specs.Wrote.{Wrote}
@@ -13,7 +13,7 @@ use Rattle.space_packet.specs.declared.SizeResult.{SizeResult}
 use Rattle.ecss.specs.Frame.{sameOctets}
 use Rattle.ecss.specs.declared.CreatorConfig.{CreatorConfig}
 use Rattle.ecss.specs.declared.Crc16.{Crc16}
-use Rattle.ecss.specs.declared.Crc16.the-variants.{Some, None}
+use Rattle.ecss_write.specs.Write.{checksumWith, keptBy}
 use Rattle.ecss_write.specs.Writer.{contentBy, octetsBy, newBy, afreshBy, writeBy, bareBy, ownBy}
 use Rattle.tc_header.specs.Form.{formC, sameForm}
 use Rattle.tc_header.specs.Header.{sameSec}
@@ -24,8 +24,6 @@ use Rattle.tc_write.specs.declared.PusTcCreator.{PusTcCreator}
 use Rattle.tc_write.specs.declared.PusTcCreatorSet.{PusTcCreatorSet}
 use Rattle.tc_write.specs.declared.PusTcCreatorResult.{PusTcCreatorResult}
 use Rattle.tc_write.specs.declared.PusTcCreatorResult.the-variants as R
-use Rattle.tc_write.specs.declared.ChecksumResult.{ChecksumResult}
-use Rattle.tc_write.specs.declared.ChecksumResult.the-variants as K
 
 abbrev pub creatorIn : TcForm → SpacePacketHeader → PusTcSecondaryHeader → Bool → PusTcCreator
 creatorIn f h x b = record { form = f; «sp_header» = h; «sec_header» = x; «has_checksum» = b }
@@ -55,10 +53,6 @@ abbrev pub creatorAnswer : PusTcCreatorResult → Answer PusTcCreator
 creatorAnswer (R.Ok t) = gives t
 creatorAnswer (R.Err e) = refuses (numbersOf e)
 
--- what an edit hands back, in the record f of what it edits
-abbrev pub keptBy : {A B : Type 0} → (A → B) → Kept A → Kept B
-keptBy f k = record { passed = k .passed; kept = f (k .kept) }
-
 -- an edit is refused for what is handed in only, and then hands back the old record
 abbrev pub creatorKept : PusTcCreatorSet → Kept PusTcCreator
 creatorKept r = record { passed = checkAnswer (r .result); kept = r .creator }
@@ -78,12 +72,8 @@ abbrev pub ownChecksum : PusTcCreator → List ℕ → Answer ℕ
 ownChecksum t d = ownBy (commandIn (t .form)) (t .«sp_header») (t .«sec_header») d
 
 -- the checksum that is written: none, or its own
-unfoldable pub checksumOf : PusTcCreator → List ℕ → Answer Crc16
-checksumOf t d = pick (t .«has_checksum») (ownChecksum t d then λ n. gives (Some n)) (gives None)
-
-abbrev pub checksumAnswer : ChecksumResult → Answer Crc16
-checksumAnswer (K.Ok c) = gives c
-checksumAnswer (K.Err e) = refuses (numbersOf e)
+abbrev pub checksumOf : PusTcCreator → List ℕ → Answer Crc16
+checksumOf t d = checksumWith (t .«has_checksum») (ownChecksum t d)
 
 -- writing into a buffer of m octets: 32, 7, 6 for the machine size, 1, 3
 abbrev pub writeOf : PusTcCreator → ℕ → ℕ → Answer ℕ

@@ -5,20 +5,18 @@ ghost use mathlib.Core.Bool.{true};
 ghost use lib.Dec.{eqb};
 ghost use lib.ListN.{length};
 ghost use Rattle.space_packet.specs.Answer.{gives, _then_, setIf, checkAnswer, sizeAnswer};
-ghost use Rattle.space_packet.specs.Bits.{pick};
 ghost use Rattle.space_packet.specs.Fields.{apidCheck, countCheck, idWithApid, typeNumber, idRaw, pscRaw};
-ghost use Rattle.space_packet.specs.Header.{packetLen, withId, withPsc, pscFrom, idFrom, headerCheck, headerKept};
-ghost use Rattle.space_packet.specs.Wrote.{Wrote};
+ghost use Rattle.space_packet.specs.Header.{packetLen, withId, withPsc, pscFrom, idFrom, headerCheck, headerKept, spHeaderAnswer};
 ghost use Rattle.space_packet.specs.declared.PacketType.the-variants.{Tc};
 ghost use Rattle.ecss.specs.Kind.{startOf};
 ghost use Rattle.ecss.specs.Version.{messageType};
 ghost use Rattle.ecss.specs.declared.PusVersion.the-variants.{PusC};
-ghost use Rattle.ecss_write.specs.Write.{machineTotal, crcAnswer, asksAnswer};
-ghost use Rattle.ecss_write.specs.Writer.{askedOf};
+ghost use Rattle.ecss_write.specs.Write.{machineTotal, crcAnswer, checksumAnswer, asksAnswer, keptBy};
+ghost use Rattle.ecss_write.specs.Writer.{askedOf, PutWrote};
 ghost use Rattle.tc_header.specs.Form.{formCheck, sourceLen, sourceCheck};
 ghost use Rattle.tc_header.specs.Header.{ackCheck, ackOf, secFrom, fieldsCheck, tc};
 ghost use Rattle.tc_write.specs.Command.{commandIn};
-ghost use Rattle.tc_write.specs.Creator.{creatorIn, newIn, newOf, creatorAnswer, keptBy, creatorKept, withHeader, withSec, updated, ownChecksum, checksumOf, checksumAnswer, contentFor, octetsFor, writeOf, bareOf, PacketWrote, ContentWrote, sameCreator};
+ghost use Rattle.tc_write.specs.Creator.{creatorIn, newIn, newOf, creatorAnswer, creatorKept, withHeader, withSec, updated, ownChecksum, checksumOf, PacketWrote, ContentWrote, sameCreator};
 ghost use Rattle.tc_write.specs.Builder.{builderOf, builderIn, defaultBuilder, builderAnswer, builderKept};
 use ecss::Crc16;
 use ecss::CreatorConfig;
@@ -26,9 +24,9 @@ use ecss::MessageTypeId;
 use ecss::PusError;
 use ecss::PusVersion;
 use ecss::frame;
-use ecss_write::DataLenResult;
 use ecss_write::packet;
 use ecss_write::packet::Asks;
+pub use ecss_write::packet::ChecksumResult;
 pub use ecss_write::packet::CrcResult;
 use space_packet::Apid;
 use space_packet::CheckResult;
@@ -39,6 +37,7 @@ use space_packet::SeqCount;
 use space_packet::SequenceFlags;
 use space_packet::SizeResult;
 use space_packet::SpHeader;
+use space_packet::SpHeaderResult;
 use space_packet::SpHeaderSet;
 pub use tc_header::ACK_ALL;
 pub use tc_header::AckFlags;
@@ -94,9 +93,24 @@ pub struct PusTcCreatorSet {
     pub result: CheckResult,
 }
 
-pub enum ChecksumResult {
-    Ok(Crc16),
-    Err(PusError),
+// The creator of the header that construction made.
+fn creator(
+    form: TcForm,
+    made: SpHeaderResult,
+    sec_header: PusTcSecondaryHeader,
+    has_checksum: bool,
+) -> PusTcCreatorResult
+    ensures { λ r. ⌜ creatorAnswer r ≡ (spHeaderAnswer made then λ h. gives (creatorIn form h «sec_header» «has_checksum»)) ⌝ }
+{
+    match made {
+        SpHeaderResult::Err(e) => PusTcCreatorResult::Err(e),
+        SpHeaderResult::Ok(sp_header) => PusTcCreatorResult::Ok(PusTcCreator {
+            form,
+            sp_header,
+            sec_header,
+            has_checksum,
+        }),
+    }
 }
 
 impl PusTcCreator {
@@ -128,23 +142,15 @@ impl PusTcCreator {
     ) -> PusTcCreatorResult
         ensures { λ r. ⌜ creatorAnswer r ≡ newIn form «sp_header» «sec_header» (length (now («app_data» .entry))) «packet_config» ⌝ }
     {
-        let header = packet::as_type(sp_header, PacketType::Tc);
-        let field = packet::length_for(
+        let made = packet::made(
             asks(form, sec_header),
-            header,
+            sp_header,
+            PacketType::Tc,
             form.min_len_without_app_data(),
             app_data.len(),
             packet_config,
         );
-        match field {
-            DataLenResult::Err(e) => PusTcCreatorResult::Err(e),
-            DataLenResult::Ok(n) => PusTcCreatorResult::Ok(PusTcCreator {
-                form,
-                sp_header: packet::with_length(header, n),
-                sec_header,
-                has_checksum: packet_config.has_checksum,
-            }),
-        }
+        creator(form, made, sec_header, packet_config.has_checksum)
     }
 
     // All four acknowledgements, and source 0.
@@ -503,19 +509,11 @@ impl PusTcCreator {
         let form = self.form;
         let h = self.sp_header;
         let x = self.sec_header;
-        if !form.eq(other.form) {
-            return false;
-        }
-        if !h.eq(other.sp_header) {
-            return false;
-        }
-        if !x.eq(other.sec_header) {
-            return false;
-        }
-        if !frame::same_octets(app_data, other_app_data) {
-            return false;
-        }
-        self.has_checksum == other.has_checksum
+        form.eq(other.form)
+            & (h.eq(other.sp_header)
+                & (x.eq(other.sec_header)
+                    & (frame::same_octets(app_data, other_app_data)
+                        & (self.has_checksum == other.has_checksum))))
     }
 
     // ---- octets
@@ -561,11 +559,7 @@ impl PusTcCreator {
         if !self.has_checksum {
             return ChecksumResult::Ok(Crc16::None);
         }
-        let own = self.calc_own_crc16(app_data);
-        match own {
-            CrcResult::Err(e) => ChecksumResult::Err(e),
-            CrcResult::Ok(crc16) => ChecksumResult::Ok(Crc16::Some(crc16)),
-        }
+        packet::checksum_of(self.calc_own_crc16(app_data))
     }
 
     // Writes the packet over the first octets of the buffer and answers how many; 32, 7, 6, 1, 3. No write takes a table for
@@ -591,19 +585,22 @@ impl PusTcCreator {
 
     // Both writes: the secondary header is encoded, and the rest is the same for every kind.
     fn put(self, app_data: &[u8], bare: bool, buf: &mut [u8]) -> SizeResult
-        ensures { λ r. ⌜ Wrote (pick «bare» bareOf writeOf self (length (now («app_data» .entry))) (length (now (buf .entry)))) (pick «bare» contentFor octetsFor self (now («app_data» .entry))) (now (buf .entry)) r (now (buf .exit)) ⌝ }
+        ensures { λ r. ⌜ PutWrote (commandIn (self .form)) bare (self .«sp_header») (self .«sec_header») (self .«has_checksum») (now («app_data» .entry)) (now (buf .entry)) r (now (buf .exit)) ⌝ }
     {
         let form = self.form;
         let x = self.sec_header;
-        let h = self.sp_header;
-        let has_checksum = self.has_checksum;
         let mut sec = [0u8; TcForm::MAX_SEC_HEADER_LEN];
         x.write_to_slice_in(form, &mut sec);
         let second = frame::front(&sec, form.sec_header_len());
-        if bare {
-            return packet::write_bare(asks(form, x), h, second, app_data, has_checksum, buf);
-        }
-        packet::write(asks(form, x), h, second, app_data, has_checksum, buf)
+        packet::put(
+            asks(form, x),
+            self.sp_header,
+            second,
+            app_data,
+            self.has_checksum,
+            bare,
+            buf,
+        )
     }
 
     // The names of the trait WritablePusPacket.

@@ -1,7 +1,7 @@
 -- `tc_compare::is_read` meets its contract: false for a refusal, and true for a record.
 use mathlib.Core.Path.{sym, ap, _∙_}
 use Rattle.tc_read.specs.Read.{recordAnswer}
-use Rattle.tc_compare.specs.Compare.{isRead}
+use Rattle.ecss.specs.Frame.{isRead}
 use borrow.Author.Needs.{needs}
 use Rattle.tc_compare.proofs.is_read.Statement.{statement}
 use Rattle.tc_compare.proofs.is_read.Tie as tie

@@ -8,6 +8,7 @@ use Rattle.space_packet.specs.Answer.{gives}
 use Rattle.space_packet.proofs.Answers.{gives-inj, gives-then, never}
 use Rattle.ecss.specs.Kind.{Rules}
 use Rattle.ecss_write.specs.Writer.{packetBy, madeBy, Handed}
+use Rattle.exactness.specs.Demand3.{Fits, madeOf}
 use Rattle.exactness.proofs.Given.{handed-new, handed-rules}
 use Rattle.tc_header.specs.Form.{formCheck}
 use Rattle.tc_header.specs.Header.{tc}
@@ -17,7 +18,7 @@ use Rattle.tc_write.specs.Creator.{creatorIn, newIn, creatorAnswer}
 use Rattle.tc_write.specs.declared.PusTcCreator.{PusTcCreator}
 use Rattle.tc_write.proofs.Command.{writer-laws}
 use Rattle.tc_strict.specs.declared.Verdict.{Verdict}
-use Rattle.tc_demand3.specs.Rules.{Telecommand, Accepts, Fits, madeOf}
+use Rattle.tc_demand3.specs.Rules.{Telecommand, Accepts}
 use borrow.Author.Needs.{needs}
 use Rattle.tc_demand3.proofs.built.Statement.{statement}
 use Rattle.tc_demand3.proofs.built.Tie as tie
@@ -30,13 +31,13 @@ built-given f good p b h g =
     ∙ gives-then _ _ _ (handed-new (commandIn f) (writer-laws f good) (p .primary) (p .secondary) (p .user) g)
 
 -- what is made has that form and a checksum, and is under the rules
-made-judged : (f : TcForm) → formCheck f ≡ gives tt → (t : PusTcCreator) (p : Telecommand) (before : List ℕ) (v : Verdict) → Handed (tc f) p → Fits f (p .user) before
+made-judged : (f : TcForm) → formCheck f ≡ gives tt → (t : PusTcCreator) (p : Telecommand) (before : List ℕ) (v : Verdict) → Handed (tc f) p → Fits (tc f) (p .user) before
     → t ≡ creatorIn f (madeBy (commandIn f) (p .primary) (p .user)) (p .secondary) true
-    → (formCheck (t .form) ≡ gives tt → t .«has_checksum» ≡ true → Rules (tc (t .form)) (packetBy (t .«sp_header») (t .«sec_header») (p .user)) → Fits (t .form) (p .user) before
+    → (formCheck (t .form) ≡ gives tt → t .«has_checksum» ≡ true → Rules (tc (t .form)) (packetBy (t .«sp_header») (t .«sec_header») (p .user)) → Fits (tc (t .form)) (p .user) before
     → Accepts (t .form) v (packetBy (t .«sp_header») (t .«sec_header») (p .user)))
-    → Accepts f v (madeOf f p)
+    → Accepts f v (madeOf (commandIn f) p)
 made-judged f good t p before v g k e w =
-    subst (λ (u : PusTcCreator). formCheck (u .form) ≡ gives tt → u .«has_checksum» ≡ true → Rules (tc (u .form)) (packetBy (u .«sp_header») (u .«sec_header») (p .user)) → Fits (u .form) (p .user) before → Accepts (u .form) v (packetBy (u .«sp_header») (u .«sec_header») (p .user))) e w
+    subst (λ (u : PusTcCreator). formCheck (u .form) ≡ gives tt → u .«has_checksum» ≡ true → Rules (tc (u .form)) (packetBy (u .«sp_header») (u .«sec_header») (p .user)) → Fits (tc (u .form)) (p .user) before → Accepts (u .form) v (packetBy (u .«sp_header») (u .«sec_header») (p .user))) e w
     good refl (handed-rules (commandIn f) (writer-laws f good) (p .primary) (p .secondary) (p .user) g) k
 
 build-requires : tie.Need-build-requires

@@ -11,32 +11,34 @@ use Rattle.space_packet.specs.declared.SizeResult.{SizeResult}
 use Rattle.space_packet.proofs.Answers.{gives-inj, never}
 use Rattle.ecss_write.specs.Writer.{packetBy, Handed}
 use Rattle.reserve.specs.Reserve.{fillIn, filledBy, finishIn, finished}
+use Rattle.exactness.specs.Demand3.{Room, madeOf, FinishedBy}
 use Rattle.tc_header.specs.Form.{formCheck}
 use Rattle.tc_header.specs.Header.{tc}
 use Rattle.tc_header.specs.declared.TcForm.{TcForm}
+use Rattle.tc_write.specs.Command.{commandIn}
 use Rattle.tc_reserved.specs.Reserved.{reserveIn, reservedAnswer, reservedLeftIn}
 use Rattle.tc_reserved.specs.declared.PusTcCreatorWithReservedAppData.{PusTcCreatorWithReservedAppData}
 use Rattle.tc_read.specs.Read.{startIn}
 use Rattle.tc_strict.specs.Verdict.{strictIn}
-use Rattle.tc_demand3.specs.Rules.{Telecommand, madeOf, Room, reportFor, FinishedBy}
+use Rattle.tc_demand3.specs.Rules.{Telecommand, reportFor}
 use Rattle.tc_demand3.proofs.Demand3.{reserved-accepted}
 use borrow.Author.Needs.{needs}
 use Rattle.tc_demand3.proofs.reserved.Statement.{statement}
 use Rattle.tc_demand3.proofs.reserved.Tie as tie
 
 -- what the three calls leave, one after the other
-accepted : (f : TcForm) (good : formCheck f ≡ gives tt) (p : Telecommand) (before : List ℕ) → Handed (tc f) p → Room f (p .user) before
+accepted : (f : TcForm) (good : formCheck f ≡ gives tt) (p : Telecommand) (before : List ℕ) → Handed (tc f) p → Room (tc f) (p .user) before
     → (q : PusTcCreatorWithReservedAppData) (l m after : List ℕ) (r : SizeResult)
     → gives q ≡ reserveIn f (p .primary) (p .secondary) (length (p .user)) true (length before)
     → l ≡ reservedLeftIn f (p .primary) (p .secondary) (length (p .user)) true before
     → m ≡ filledBy (fillIn (startIn (q .form)) (q .held) (length l) (length (p .user))) (startIn (q .form)) (p .user) l
     → Wrote (finishIn (startIn (q .form)) (q .held) (length m)) (finished (q .held) m) m r after
-    → strictIn f after ≡ gives (reportFor f (madeOf f p))
+    → strictIn f after ≡ gives (reportFor f (madeOf (commandIn f) p))
 accepted f good p before g k q l m after r e o h w =
     let t = reserved-accepted f good p before g k in
     let i : q ≡ t .0 = gives-inj _ _ (e ∙ t .1) in
-    let b : FinishedBy f q p before r after = record { headed = l; filled = m; reserves = o; fills = h; finishes = w } in
-    t .2 r after (subst (λ (z : PusTcCreatorWithReservedAppData). FinishedBy f z p before r after) i b) .accepted
+    let b : FinishedBy (commandIn f) (startIn (q .form)) (q .held) p before r after = record { headed = l; filled = m; reserves = o; fills = h; finishes = w } in
+    t .2 r after (subst (λ (z : PusTcCreatorWithReservedAppData). FinishedBy (commandIn f) (startIn (z .form)) (z .held) p before r after) i b) .accepted
 
 new-in-requires : tie.Need-new-in-requires
 new-in-requires c κs = search needs

@@ -13,8 +13,8 @@ use Rattle.tc_header.proofs.strict_rule.Tie as tie
 raw-value-requires : tie.Need-raw-value-requires
 raw-value-requires c κs = search needs
 
-first-octet-requires : tie.Need-first-octet-requires
-first-octet-requires c κs = search needs
+octet-at-requires : tie.Need-octet-at-requires
+octet-at-requires c κs = search needs
 
 pus-rule-requires : tie.Need-pus-rule-requires
 pus-rule-requires c κs = search needs
@@ -22,9 +22,9 @@ pus-rule-requires c κs = search needs
 returns : tie.Need-returns
 unfolding strictRule
 returns c = let a = c .before .before .before .before .args in
-    c .pus-rule .ensures ∙ ap₂ (λ (v o : ℕ). pusRule Tc (refusal 10 []) v (a .h) o) (c .before .before .raw-value .ensures) (c .before .first-octet .ensures)
+    c .pus-rule .ensures ∙ ap₂ (λ (v o : ℕ). pusRule Tc (refusal 10 []) v (a .h) o) (c .before .before .raw-value .ensures) (c .before .octet-at .ensures)
     ∙ sym (then-same _)
 
 pub strict-rule-spec : {M : Type 1} → statement M
 strict-rule-spec =
-    tie.close (tie.spec raw-value-requires first-octet-requires pus-rule-requires returns)
+    tie.close (tie.spec raw-value-requires octet-at-requires pus-rule-requires returns)

@@ -1,22 +1,14 @@
--- `tc_read::app_data_in` meets its contract: a form that is refused has no part, and one that is taken has that of its start.
-use mathlib.Core.Path.{sym, ap, _∙_}
-use Rattle.space_packet.specs.Answer.{checkAnswer}
-use Rattle.tc_read.proofs.Records.{parts-refused, parts-taken}
+-- `tc_read::app_data_in` meets its contract: the part behind the form's check, from its start.
+use Prim.Native.Nat.{ℕ}
+use mathlib.Core.Path.{ap₂, _∙_}
+use Rattle.space_packet.specs.Answer.{Passed}
+use Rattle.ecss.specs.Frame.{frameAfter, dataPart}
 use borrow.Author.Needs.{needs}
 use Rattle.tc_read.proofs.app_data_in.Statement.{statement}
 use Rattle.tc_read.proofs.app_data_in.Tie as tie
 
 check-requires : tie.Need-check-requires
 check-requires c κs = search needs
-
-enum-told : tie.Need-enum-told
-enum-told c = search needs
-
-slice-aggregate-result : tie.Need-slice-aggregate-result
-slice-aggregate-result c = search needs
-
-enum-told-2 : tie.Need-enum-told-2
-enum-told-2 c = search needs
 
 min-len-without-app-data-requires : tie.Need-min-len-without-app-data-requires
 min-len-without-app-data-requires c κs = search needs
@@ -25,20 +17,11 @@ data-part-requires : tie.Need-data-part-requires
 data-part-requires c κs = search needs
 
 returns : tie.Need-returns
-returns c = sym (parts-refused _ _ _ _ (sym (c .before .before .before .check .ensures) ∙ ap checkAnswer (c .before .enum-told .given .1)) .0)
-
-returns-2 : tie.Need-returns-2
-returns-2 c = c .data-part .ensures ∙ parts-taken _ _ _ _ (sym (c .before .before .before .before .check .ensures) ∙ ap checkAnswer (c .before .before .enum-told2 .given .1)) (c .before .min-len-without-app-data .ensures) .0
+returns c =
+    let a = c .before .before .before .before .args in
+    c .data-part .ensures ∙ ap₂ (λ (p : Passed) (n : ℕ). dataPart n (a .has-checksum) (frameAfter p n (a .slice .now) (a .has-checksum)) (a .slice .now)) (c .before .before .check .ensures) (c .before .min-len-without-app-data .ensures)
 
 pub app-data-in-spec : {M : Type 1} → statement M
 app-data-in-spec =
     tie.close
-    (tie.spec
-    check-requires
-    enum-told
-    slice-aggregate-result
-    enum-told-2
-    min-len-without-app-data-requires
-    data-part-requires
-    returns
-    returns-2)
+    (tie.spec check-requires min-len-without-app-data-requires data-part-requires returns)

@@ -13,11 +13,7 @@ check-version-in-requires : tie.Need-check-version-in-requires
 check-version-in-requires c κs = search needs
 
 returns : tie.Need-returns
-returns c =
-    let p = c .before .before .check .ensures in
-    let q = c .before .check-fields-in .ensures in
-    let v = c .check-version-in .ensures in
-    λ i. record { first = p i; fields = q i; version = v i }
+returns c = λ i. record { first = c .before .before .check .ensures i; fields = c .before .check-fields-in .ensures i; version = c .check-version-in .ensures i }
 
 pub asks-spec : {M : Type 1} → statement M
 asks-spec =

@@ -5,8 +5,8 @@ use borrow.Author.Needs.{needs}
 use Rattle.ecss.proofs.frame.raw_part.Statement.{statement}
 use Rattle.ecss.proofs.frame.raw_part.Tie as tie
 
-frame-of-requires : tie.Need-frame-of-requires
-frame-of-requires c κs = search needs
+frame-after-requires : tie.Need-frame-after-requires
+frame-after-requires c κs = search needs
 
 enum-told : tie.Need-enum-told
 enum-told c = search needs
@@ -21,16 +21,16 @@ front-requires : tie.Need-front-requires
 front-requires c κs = search needs
 
 returns : tie.Need-returns
-returns c = let e = sym (c .before .before .before .frame-of .ensures) ∙ ap sizeAnswer (c .before .enum-told .given .1) in simp e
+returns c = let e = sym (c .before .before .before .frame-after .ensures) ∙ ap sizeAnswer (c .before .enum-told .given .1) in simp e
 
 returns-2 : tie.Need-returns-2
-returns-2 c = let e = sym (c .before .before .before .before .frame-of .ensures) ∙ ap sizeAnswer (c .before .before .f .given .1) in simp e (c .front .ensures)
+returns-2 c = let e = sym (c .before .before .before .before .frame-after .ensures) ∙ ap sizeAnswer (c .before .before .f .given .1) in simp e (c .front .ensures)
 
 pub raw-part-spec : {M : Type 1} → statement M
 raw-part-spec =
     tie.close
     (tie.spec
-    frame-of-requires
+    frame-after-requires
     enum-told
     slice-aggregate-result
     enum-known-f

@@ -100,6 +100,18 @@ enum-told-6 c = search needs
 in-numbers-requires-11 : tie.Need-in-numbers-requires-11
 in-numbers-requires-11 c κs = search needs
 
+enum-told-7 : tie.Need-enum-told-7
+enum-told-7 c = search needs
+
+in-numbers-requires-12 : tie.Need-in-numbers-requires-12
+in-numbers-requires-12 c κs = search needs
+
+enum-told-8 : tie.Need-enum-told-8
+enum-told-8 c = search needs
+
+in-numbers-requires-13 : tie.Need-in-numbers-requires-13
+in-numbers-requires-13 c κs = search needs
+
 returns : tie.Need-returns
 returns c = told (c .numbers .ensures) (c .before .before .self .given .1)
 
@@ -136,6 +148,12 @@ returns-11 c = told (c .in-numbers10 .ensures) (c .before .enum-told5 .given .1)
 returns-12 : tie.Need-returns-12
 returns-12 c = told (c .in-numbers11 .ensures) (c .before .enum-told6 .given .1)
 
+returns-13 : tie.Need-returns-13
+returns-13 c = told (c .in-numbers12 .ensures) (c .before .enum-told7 .given .1)
+
+returns-14 : tie.Need-returns-14
+returns-14 c = told (c .in-numbers13 .ensures) (c .before .enum-told8 .given .1)
+
 pub numbers-spec : {M : Type 1} → statement M
 numbers-spec =
     tie.close
@@ -170,6 +188,10 @@ numbers-spec =
     in-numbers-requires-10
     enum-told-6
     in-numbers-requires-11
+    enum-told-7
+    in-numbers-requires-12
+    enum-told-8
+    in-numbers-requires-13
     returns
     returns-2
     returns-3
@@ -181,4 +203,6 @@ numbers-spec =
     returns-9
     returns-10
     returns-11
-    returns-12)
+    returns-12
+    returns-13
+    returns-14)

@@ -1,7 +1,8 @@
 -- `PusTcSecondaryHeader::check` meets its contract: the form, the fields, the room, then the version.
 use mathlib.Core.Path.{sym, ap, _∙_}
 use Rattle.space_packet.specs.Answer.{checkAnswer}
-use Rattle.tc_header.proofs.Checks.{no-room, has-room, checks-refused, checks-no-room, checks-version}
+use Rattle.space_packet.proofs.Answers.{no-room, has-room}
+use Rattle.tc_header.proofs.Checks.{checks-refused, checks-no-room, checks-version}
 use borrow.Author.Needs.{needs}
 use Rattle.tc_header.proofs.PusTcSecondaryHeader.check.Statement.{statement}
 use Rattle.tc_header.proofs.PusTcSecondaryHeader.check.Tie as tie

@@ -3,9 +3,8 @@ use Prim.Native.Nat.{_%_}
 use mathlib.Core.Path.{sym, ap, _∙_}
 use lib.ListN.{getD}
 use Rattle.space_packet.specs.Answer.{gives, checkAnswer}
-use Rattle.space_packet.proofs.Answers.{gives-then, refuses-then}
+use Rattle.space_packet.proofs.Answers.{gives-then, refuses-then, too-few, enough}
 use Rattle.tc_header.specs.Header.{ackOf, secFrom, secReadIn, tcOf}
-use Rattle.tc_header.proofs.Checks.{too-few, enough}
 use borrow.Author.Needs.{needs}
 use Rattle.tc_header.proofs.PusTcSecondaryHeader.from_be_bytes_in.Statement.{statement}
 use Rattle.tc_header.proofs.PusTcSecondaryHeader.from_be_bytes_in.Tie as tie

@@ -5,7 +5,7 @@ use mathlib.Core.List.{[], _∷_, _++_}
 use native.Mathlib.Omega.{arith}
 use lib.ListN.{drop, length-set}
 use lib.Seq.{sets-eq}
-use Rattle.tc_header.proofs.Forms.{version-le}
+use Rattle.ecss.proofs.Versions.{version-le}
 use borrow.Author.Needs.{needs}
 use Rattle.tc_header.proofs.PusTcSecondaryHeader.put_first.Statement.{statement}
 use Rattle.tc_header.proofs.PusTcSecondaryHeader.put_first.Tie as tie

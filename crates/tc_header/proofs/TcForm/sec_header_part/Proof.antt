@@ -1,49 +1,20 @@
--- `TcForm::sec_header_part` meets its contract: the octets behind the primary header, up to the secondary header's size.
-use Prim.Native.Nat.{_-_}
-use mathlib.Core.Path.{sym, ap₂, _∙_}
-use native.Mathlib.Omega.{arith}
-use lib.ListN.{length, take, drop, length-drop}
-use lib.Seq.{take-all}
-use Rattle.tc_header.specs.Header.{tc}
-use Rattle.tc_header.proofs.Forms.{none-left}
+-- `TcForm::sec_header_part` meets its contract: the part of the form's size.
+use Prim.Native.Nat.{ℕ}
+use mathlib.Core.Path.{ap, _∙_}
+use Rattle.ecss.specs.Kind.{secondaryOf}
 use borrow.Author.Needs.{needs}
 use Rattle.tc_header.proofs.TcForm.sec_header_part.Statement.{statement}
 use Rattle.tc_header.proofs.TcForm.sec_header_part.Tie as tie
 
-slice-aggregate-result : tie.Need-slice-aggregate-result
-slice-aggregate-result c = search needs
-
-returns : tie.Need-returns
-returns c = let a = c .before .before .before .args in sym (none-left (tc (a .self) .size) (a .packet .now) (c .before .if1 .taken))
-
-sub-front : tie.Need-sub-front
-sub-front c = search needs
-
-part-front-start : tie.Need-part-front-start
-part-front-start c = search needs
-
-part-front-end : tie.Need-part-front-end
-part-front-end c = search needs
-
 sec-header-len-requires : tie.Need-sec-header-len-requires
 sec-header-len-requires c κs = search needs
 
-front-requires : tie.Need-front-requires
-front-requires c κs = search needs
+sec-header-part-requires : tie.Need-sec-header-part-requires
+sec-header-part-requires c κs = search needs
 
-returns-2 : tie.Need-returns-2
-returns-2 c = let a = c .before .before .before .before .before .args in
-    c .front .ensures ∙ ap₂ take (c .before .sec-header-len .ensures) (take-all (length (a .packet .now) - 6) (drop 6 (a .packet .now)) (omega (arith, length-drop 6 (a .packet .now))))
+returns : tie.Need-returns
+returns c = c .sec-header-part .ensures ∙ ap (λ (n : ℕ). secondaryOf n (c .before .before .before .args .packet .now)) (c .before .sec-header-len .ensures)
 
 pub sec-header-part-spec : {M : Type 1} → statement M
 sec-header-part-spec =
-    tie.close
-    (tie.spec
-    slice-aggregate-result
-    returns
-    sub-front
-    part-front-start
-    part-front-end
-    sec-header-len-requires
-    front-requires
-    returns-2)
+    tie.close (tie.spec sec-header-len-requires sec-header-part-requires returns)

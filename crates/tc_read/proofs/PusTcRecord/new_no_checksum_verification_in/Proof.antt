@@ -1,9 +1,9 @@
--- `PusTcRecord::new_no_checksum_verification_in` meets its contract: the form's refusal, the frame's, or the record of its total.
+-- `PusTcRecord::new_no_checksum_verification_in` meets its contract: the refusal of the frame, or the record of its total, which fits.
 use mathlib.Core.Path.{sym, ap, _∙_}
-use Rattle.space_packet.specs.Answer.{checkAnswer, sizeAnswer}
+use Rattle.space_packet.specs.Answer.{sizeAnswer}
 use Rattle.space_packet.proofs.Answers.{gives-then, refuses-then}
+use Rattle.ecss.proofs.After.{frame-found, frame-given}
 use Rattle.tc_read.specs.Read.{readIn, recordAnswer}
-use Rattle.tc_read.proofs.Records.{frame-found, frame-given, read-form}
 use borrow.Author.Needs.{needs}
 use Rattle.tc_read.proofs.PusTcRecord.new_no_checksum_verification_in.Statement.{statement}
 use Rattle.tc_read.proofs.PusTcRecord.new_no_checksum_verification_in.Tie as tie
@@ -11,20 +11,11 @@ use Rattle.tc_read.proofs.PusTcRecord.new_no_checksum_verification_in.T
 check-requires : tie.Need-check-requires
 check-requires c κs = search needs
 
-enum-known-c : tie.Need-enum-known-c
-enum-known-c c = search needs
-
-returns : tie.Need-returns
-returns c = sym (read-form _ _ _ _ (sym (c .before .before .before .check .ensures) ∙ ap checkAnswer (c .before .c .given .1)))
-
-enum-told : tie.Need-enum-told
-enum-told c = search needs
-
 min-len-without-app-data-requires : tie.Need-min-len-without-app-data-requires
 min-len-without-app-data-requires c κs = search needs
 
-frame-of-requires : tie.Need-frame-of-requires
-frame-of-requires c κs = search needs
+frame-after-requires : tie.Need-frame-after-requires
+frame-after-requires c κs = search needs
 
 enum-known-f : tie.Need-enum-known-f
 enum-known-f c = search needs
@@ -34,19 +25,22 @@ enum-known-f-2 c = search needs
 
 of-requires : tie.Need-of-requires
 of-requires c κs =
-    let w = frame-found _ _ _ _ _ (sym (c .before .before .before .before .before .before .before .check .ensures) ∙ ap checkAnswer (c .before .before .before .before .before .enum-told .given .1)) (c .before .before .before .frame-of .ensures) (c .before .before .before .before .min-len-without-app-data .ensures) in
-    frame-given _ _ _ _ (w ∙ ap sizeAnswer (c .before .f2 .given .1))
+    let k = c .before .before .before in
+    let w = frame-found _ _ _ _ _ _ _ (k .frame-after .ensures) (k .before .before .check .ensures) (k .before .min-len-without-app-data .ensures) in
+    frame-given _ _ _ _ _ (w ∙ ap sizeAnswer (c .before .f2 .given .1))
+
+returns : tie.Need-returns
+unfolding readIn
+returns c =
+    let k = c .before .before .before in
+    let w = frame-found _ _ _ _ _ _ _ (k .frame-after .ensures) (k .before .before .check .ensures) (k .before .min-len-without-app-data .ensures) in
+    sym (refuses-then _ _ _ (w ∙ ap sizeAnswer (c .before .f .given .1)))
 
 returns-2 : tie.Need-returns-2
 unfolding readIn
 returns-2 c =
-    let w = frame-found _ _ _ _ _ (sym (c .before .before .before .before .before .before .before .check .ensures) ∙ ap checkAnswer (c .before .before .before .before .before .enum-told .given .1)) (c .before .before .before .frame-of .ensures) (c .before .before .before .before .min-len-without-app-data .ensures) in
-    sym (refuses-then _ _ _ (w ∙ ap sizeAnswer (c .before .f .given .1)))
-
-returns-3 : tie.Need-returns-3
-unfolding readIn
-returns-3 c =
-    let w = frame-found _ _ _ _ _ (sym (c .before .before .before .before .before .before .before .before .check .ensures) ∙ ap checkAnswer (c .before .before .before .before .before .before .enum-told .given .1)) (c .before .before .before .before .frame-of .ensures) (c .before .before .before .before .before .min-len-without-app-data .ensures) in
+    let k = c .before .before .before .before in
+    let w = frame-found _ _ _ _ _ _ _ (k .frame-after .ensures) (k .before .before .check .ensures) (k .before .min-len-without-app-data .ensures) in
     ap recordAnswer (c .of .ensures) ∙ sym (gives-then _ _ _ (w ∙ ap sizeAnswer (c .before .before .f2 .given .1)))
 
 pub new-no-checksum-verification-in-spec : {M : Type 1} → statement M
@@ -54,13 +48,10 @@ new-no-checksum-verification-in-spec =
     tie.close
     (tie.spec
     check-requires
-    enum-known-c
-    returns
-    enum-told
     min-len-without-app-data-requires
-    frame-of-requires
+    frame-after-requires
     enum-known-f
     enum-known-f-2
     of-requires
-    returns-2
-    returns-3)
+    returns
+    returns-2)

@@ -4,7 +4,7 @@ use Rattle.space_packet.specs.Answer.{setIf}
 use Rattle.space_packet.specs.Header.{withId}
 use Rattle.tc_write.specs.Creator.{withHeader}
 use Rattle.tc_write.specs.Builder.{builderOf}
-use Rattle.tc_write.proofs.Made.{edit-in}
+use Rattle.ecss_write.proofs.Calls.{edit-in}
 use borrow.Author.Needs.{needs}
 use Rattle.tc_write.proofs.PusTcBuilder.with_packet_id.Statement.{statement}
 use Rattle.tc_write.proofs.PusTcBuilder.with_packet_id.Tie as tie

@@ -2,7 +2,7 @@
 use mathlib.Core.Path.{_∙_, ap₂}
 use Rattle.space_packet.specs.Answer.{setIf}
 use Rattle.tc_write.specs.Builder.{builderOf}
-use Rattle.tc_write.proofs.Made.{edit-in}
+use Rattle.ecss_write.proofs.Calls.{edit-in}
 use borrow.Author.Needs.{needs}
 use Rattle.tc_write.proofs.PusTcBuilder.with_packet_sequence_control.Statement.{statement}
 use Rattle.tc_write.proofs.PusTcBuilder.with_packet_sequence_control.Tie as tie

@@ -1,7 +1,7 @@
 -- `PusTcBuilder::with_source_id` meets its contract: the creator's own edit, in the builder that holds it.
 use mathlib.Core.Path.{_∙_}
 use Rattle.tc_write.specs.Builder.{builderOf}
-use Rattle.tc_write.proofs.Made.{edit-in}
+use Rattle.ecss_write.proofs.Calls.{edit-in}
 use borrow.Author.Needs.{needs}
 use Rattle.tc_write.proofs.PusTcBuilder.with_source_id.Statement.{statement}
 use Rattle.tc_write.proofs.PusTcBuilder.with_source_id.Tie as tie

@@ -1,7 +1,7 @@
 -- `PusTcCreator::set_apid` meets its contract: the header's own edit, in the creator that holds it.
 use mathlib.Core.Path.{_∙_}
 use Rattle.tc_write.specs.Creator.{withHeader}
-use Rattle.tc_write.proofs.Made.{edit-in}
+use Rattle.ecss_write.proofs.Calls.{edit-in}
 use borrow.Author.Needs.{needs}
 use Rattle.tc_write.proofs.PusTcCreator.set_apid.Statement.{statement}
 use Rattle.tc_write.proofs.PusTcCreator.set_apid.Tie as tie

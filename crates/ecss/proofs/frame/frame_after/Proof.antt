@@ -1,0 +1,29 @@
+-- `frame::frame_after` meets its contract: the check's refusal, or what is found where it passes.
+use mathlib.Core.Path.{sym, ap, _∙_}
+use Rattle.space_packet.specs.Answer.{checkAnswer}
+use Rattle.space_packet.proofs.Answers.{gives-then, refuses-then}
+use Rattle.ecss.specs.Frame.{frameAfter}
+use borrow.Author.Needs.{needs}
+use Rattle.ecss.proofs.frame.frame_after.Statement.{statement}
+use Rattle.ecss.proofs.frame.frame_after.Tie as tie
+
+enum-known-first : tie.Need-enum-known-first
+enum-known-first c = search needs
+
+enum-told : tie.Need-enum-told
+enum-told c = search needs
+
+frame-of-requires : tie.Need-frame-of-requires
+frame-of-requires c κs = search needs
+
+returns : tie.Need-returns
+unfolding frameAfter
+returns c = sym (refuses-then _ _ _ (ap checkAnswer (c .before .first .given .1)))
+
+returns-2 : tie.Need-returns-2
+unfolding frameAfter
+returns-2 c = c .frame-of .ensures ∙ sym (gives-then _ _ _ (ap checkAnswer (c .before .enum-told .given .1)))
+
+pub frame-after-spec : {M : Type 1} → statement M
+frame-after-spec =
+    tie.close (tie.spec enum-known-first enum-told frame-of-requires returns returns-2)

@@ -1,0 +1,37 @@
+-- `ecss::frame::sec_header_part` meets its contract: the octets behind the primary header, up to the secondary header's size.
+use Prim.Native.Nat.{_-_}
+use mathlib.Core.Path.{sym, ap, _∙_}
+use native.Mathlib.Omega.{arith}
+use lib.ListN.{length, take, drop, length-drop}
+use lib.Seq.{take-all}
+use Rattle.ecss.proofs.Frames.{none-left}
+use borrow.Author.Needs.{needs}
+use Rattle.ecss.proofs.frame.sec_header_part.Statement.{statement}
+use Rattle.ecss.proofs.frame.sec_header_part.Tie as tie
+
+slice-aggregate-result : tie.Need-slice-aggregate-result
+slice-aggregate-result c = search needs
+
+returns : tie.Need-returns
+returns c = let a = c .before .before .before .args in sym (none-left (a .size) (a .packet .now) (c .before .if1 .taken))
+
+sub-front : tie.Need-sub-front
+sub-front c = search needs
+
+part-front-start : tie.Need-part-front-start
+part-front-start c = search needs
+
+part-front-end : tie.Need-part-front-end
+part-front-end c = search needs
+
+front-requires : tie.Need-front-requires
+front-requires c κs = search needs
+
+returns-2 : tie.Need-returns-2
+returns-2 c = let a = c .before .before .before .before .args in
+    c .front .ensures ∙ ap (take (a .size)) (take-all (length (a .packet .now) - 6) (drop 6 (a .packet .now)) (omega (arith, length-drop 6 (a .packet .now))))
+
+pub sec-header-part-spec : {M : Type 1} → statement M
+sec-header-part-spec =
+    tie.close
+    (tie.spec slice-aggregate-result returns sub-front part-front-start part-front-end front-requires returns-2)

@@ -1,0 +1,5 @@
+pub mod Checks
+pub mod Laws
+pub mod Determined
+pub mod Rows
+pub mod Same

@@ -1,0 +1,57 @@
+-- `PusTmRecord::new_no_checksum_verification` meets its contract: the refusal of the frame, or the record of its total, which fits.
+use mathlib.Core.Path.{sym, ap, _∙_}
+use Rattle.space_packet.specs.Answer.{sizeAnswer}
+use Rattle.space_packet.proofs.Answers.{gives-then, refuses-then}
+use Rattle.ecss.proofs.After.{frame-found, frame-given}
+use Rattle.tm_read.specs.Read.{readIn, recordAnswer}
+use borrow.Author.Needs.{needs}
+use Rattle.tm_read.proofs.PusTmRecord.new_no_checksum_verification.Statement.{statement}
+use Rattle.tm_read.proofs.PusTmRecord.new_no_checksum_verification.Tie as tie
+
+check-time-len-requires : tie.Need-check-time-len-requires
+check-time-len-requires c κs = search needs
+
+min-len-without-source-data-requires : tie.Need-min-len-without-source-data-requires
+min-len-without-source-data-requires c κs = search needs
+
+frame-after-requires : tie.Need-frame-after-requires
+frame-after-requires c κs = search needs
+
+enum-known-f : tie.Need-enum-known-f
+enum-known-f c = search needs
+
+enum-known-f-2 : tie.Need-enum-known-f-2
+enum-known-f-2 c = search needs
+
+of-requires : tie.Need-of-requires
+of-requires c κs =
+    let k = c .before .before .before in
+    let w = frame-found _ _ _ _ _ _ _ (k .frame-after .ensures) (k .before .before .check-time-len .ensures) (k .before .min-len-without-source-data .ensures) in
+    frame-given _ _ _ _ _ (w ∙ ap sizeAnswer (c .before .f2 .given .1))
+
+returns : tie.Need-returns
+unfolding readIn
+returns c =
+    let k = c .before .before .before in
+    let w = frame-found _ _ _ _ _ _ _ (k .frame-after .ensures) (k .before .before .check-time-len .ensures) (k .before .min-len-without-source-data .ensures) in
+    sym (refuses-then _ _ _ (w ∙ ap sizeAnswer (c .before .f .given .1)))
+
+returns-2 : tie.Need-returns-2
+unfolding readIn
+returns-2 c =
+    let k = c .before .before .before .before in
+    let w = frame-found _ _ _ _ _ _ _ (k .frame-after .ensures) (k .before .before .check-time-len .ensures) (k .before .min-len-without-source-data .ensures) in
+    ap recordAnswer (c .of .ensures) ∙ sym (gives-then _ _ _ (w ∙ ap sizeAnswer (c .before .before .f2 .given .1)))
+
+pub new-no-checksum-verification-spec : {M : Type 1} → statement M
+new-no-checksum-verification-spec =
+    tie.close
+    (tie.spec
+    check-time-len-requires
+    min-len-without-source-data-requires
+    frame-after-requires
+    enum-known-f
+    enum-known-f-2
+    of-requires
+    returns
+    returns-2)

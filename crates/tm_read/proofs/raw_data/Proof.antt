@@ -1,0 +1,31 @@
+-- `tm_read::raw_data` meets its contract: the part behind the check of the time's length, from its start.
+use Prim.Native.Nat.{ℕ}
+use mathlib.Core.Path.{ap₂, _∙_}
+use Rattle.space_packet.specs.Answer.{Passed}
+use Rattle.ecss.specs.Frame.{frameAfter, rawPart}
+use borrow.Author.Needs.{needs}
+use Rattle.tm_read.proofs.raw_data.Statement.{statement}
+use Rattle.tm_read.proofs.raw_data.Tie as tie
+
+check-time-len-requires : tie.Need-check-time-len-requires
+check-time-len-requires c κs = search needs
+
+min-len-without-source-data-requires : tie.Need-min-len-without-source-data-requires
+min-len-without-source-data-requires c κs = search needs
+
+raw-part-requires : tie.Need-raw-part-requires
+raw-part-requires c κs = search needs
+
+returns : tie.Need-returns
+returns c =
+    let a = c .before .before .before .before .args in
+    c .raw-part .ensures ∙ ap₂ (λ (p : Passed) (n : ℕ). rawPart (frameAfter p n (a .slice .now) (a .has-checksum)) (a .slice .now)) (c .before .before .check-time-len .ensures) (c .before .min-len-without-source-data .ensures)
+
+pub raw-data-spec : {M : Type 1} → statement M
+raw-data-spec =
+    tie.close
+    (tie.spec
+    check-time-len-requires
+    min-len-without-source-data-requires
+    raw-part-requires
+    returns)

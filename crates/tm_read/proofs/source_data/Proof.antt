@@ -1,0 +1,31 @@
+-- `tm_read::source_data` meets its contract: the part behind the check of the time's length, from its start.
+use Prim.Native.Nat.{ℕ}
+use mathlib.Core.Path.{ap₂, _∙_}
+use Rattle.space_packet.specs.Answer.{Passed}
+use Rattle.ecss.specs.Frame.{frameAfter, dataPart}
+use borrow.Author.Needs.{needs}
+use Rattle.tm_read.proofs.source_data.Statement.{statement}
+use Rattle.tm_read.proofs.source_data.Tie as tie
+
+check-time-len-requires : tie.Need-check-time-len-requires
+check-time-len-requires c κs = search needs
+
+min-len-without-source-data-requires : tie.Need-min-len-without-source-data-requires
+min-len-without-source-data-requires c κs = search needs
+
+data-part-requires : tie.Need-data-part-requires
+data-part-requires c κs = search needs
+
+returns : tie.Need-returns
+returns c =
+    let a = c .before .before .before .before .args in
+    c .data-part .ensures ∙ ap₂ (λ (p : Passed) (n : ℕ). dataPart n (a .has-checksum) (frameAfter p n (a .slice .now) (a .has-checksum)) (a .slice .now)) (c .before .before .check-time-len .ensures) (c .before .min-len-without-source-data .ensures)
+
+pub source-data-spec : {M : Type 1} → statement M
+source-data-spec =
+    tie.close
+    (tie.spec
+    check-time-len-requires
+    min-len-without-source-data-requires
+    data-part-requires
+    returns)

@@ -1,0 +1,4 @@
+pub mod Report
+pub mod Agree
+pub mod Same
+pub mod Determined

@@ -1,0 +1,59 @@
+-- `PusTmCreator::calc_own_crc16` meets its contract: the shared checksum of its checks and its encoded header.
+use mathlib.Core.Path.{refl, _∙_}
+use native.Mathlib.Omega.{arith}
+use lib.ListN.{replicate}
+use Rattle.ecss_write.proofs.Calls.{own}
+use Rattle.tm_write.specs.Report.{reportBy}
+use Rattle.tm_write.specs.Creator.{headerWith}
+use Rattle.tm_write.proofs.Report.{hands}
+use borrow.Author.Needs.{needs}
+use Rattle.tm_write.proofs.PusTmCreator.calc_own_crc16.Statement.{statement}
+use Rattle.tm_write.proofs.PusTmCreator.calc_own_crc16.Tie as tie
+
+slice-aggregate-write-to-slice : tie.Need-slice-aggregate-write-to-slice
+slice-aggregate-write-to-slice c = search needs
+
+write-to-slice-requires : tie.Need-write-to-slice-requires
+write-to-slice-requires c κs = search needs
+
+slice-aggregate-front : tie.Need-slice-aggregate-front
+slice-aggregate-front c = search needs
+
+sec-header-len-requires : tie.Need-sec-header-len-requires
+sec-header-len-requires c κs = search needs
+
+front-requires : tie.Need-front-requires
+front-requires c κs = search needs
+
+asks-requires : tie.Need-asks-requires
+asks-requires c κs = search needs
+
+own-checksum-requires : tie.Need-own-checksum-requires
+own-checksum-requires c κs = search needs
+
+returns : tie.Need-returns
+returns c =
+    let k = c .before in
+    let f = k .before in
+    let w = f .before .before .before .before in
+    let a = w .before .before .before .before .before .args in
+    let t = a .self in
+    let x = headerWith t (a .time .now) in
+    c .own-checksum .ensures
+    ∙ own (reportBy (t .«time_len»)) (t .«sp_header») x (k .asks .result) _
+    (hands (t .«time_len») x (replicate 23 0) _ _ _ refl (omega arith) (w .write-to-slice .ensures .left)
+    (f .before .sec-header-len .ensures) (f .front .ensures) (k .asks .result) (k .asks .ensures))
+    (a .source-data .now)
+
+pub calc-own-crc16-spec : {M : Type 1} → statement M
+calc-own-crc16-spec =
+    tie.close
+    (tie.spec
+    slice-aggregate-write-to-slice
+    write-to-slice-requires
+    slice-aggregate-front
+    sec-header-len-requires
+    front-requires
+    asks-requires
+    own-checksum-requires
+    returns)

@@ -1,0 +1,48 @@
+-- `PusTmCreator::len_written` meets its contract: where the time passes, the total from its start.
+use mathlib.Core.Path.{sym, ap, _∙_}
+use lib.ListN.{length}
+use Rattle.space_packet.specs.Answer.{checkAnswer}
+use Rattle.space_packet.proofs.Answers.{gives-then, refuses-then}
+use Rattle.ecss_write.specs.Write.{machineTotal}
+use borrow.Author.Needs.{needs}
+use Rattle.tm_write.proofs.PusTmCreator.len_written.Statement.{statement}
+use Rattle.tm_write.proofs.PusTmCreator.len_written.Tie as tie
+
+check-time-requires : tie.Need-check-time-requires
+check-time-requires c κs = search needs
+
+enum-known-c : tie.Need-enum-known-c
+enum-known-c c = search needs
+
+returns : tie.Need-returns
+returns c = sym (refuses-then _ _ _ (sym (c .before .before .before .check-time .ensures) ∙ ap checkAnswer (c .before .c .given .1)))
+
+enum-told : tie.Need-enum-told
+enum-told c = search needs
+
+min-len-without-source-data-requires : tie.Need-min-len-without-source-data-requires
+min-len-without-source-data-requires c κs = search needs
+
+total-of-requires : tie.Need-total-of-requires
+total-of-requires c κs = search needs
+
+returns-2 : tie.Need-returns-2
+returns-2 c =
+    let k = c .before .before .before .before in
+    let a = k .before .before .before .args in
+    let e = sym (k .check-time .ensures) ∙ ap checkAnswer (c .before .before .enum-told .given .1) in
+    c .total-of .ensures
+    ∙ ap (λ k. machineTotal k (a .self .«has_checksum») (length (a .source-data .now))) (c .before .min-len-without-source-data .ensures)
+    ∙ sym (gives-then _ _ _ e)
+
+pub len-written-spec : {M : Type 1} → statement M
+len-written-spec =
+    tie.close
+    (tie.spec
+    check-time-requires
+    enum-known-c
+    returns
+    enum-told
+    min-len-without-source-data-requires
+    total-of-requires
+    returns-2)

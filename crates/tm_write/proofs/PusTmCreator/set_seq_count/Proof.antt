@@ -1,0 +1,19 @@
+-- `PusTmCreator::set_seq_count` meets its contract: the header's own edit, in the creator that holds it.
+use mathlib.Core.Path.{_∙_}
+use Rattle.ecss_write.proofs.Calls.{edit-in}
+use Rattle.tm_write.specs.Creator.{withHeader}
+use borrow.Author.Needs.{needs}
+use Rattle.tm_write.proofs.PusTmCreator.set_seq_count.Statement.{statement}
+use Rattle.tm_write.proofs.PusTmCreator.set_seq_count.Tie as tie
+
+set-seq-count-requires : tie.Need-set-seq-count-requires
+set-seq-count-requires c κs = search needs
+
+edited-requires : tie.Need-edited-requires
+edited-requires c κs = search needs
+
+returns : tie.Need-returns
+returns c = c .edited .ensures ∙ edit-in (withHeader (c .before .before .before .args .self)) _ _ _ _ (c .before .set-seq-count .ensures)
+
+pub set-seq-count-spec : {M : Type 1} → statement M
+set-seq-count-spec = tie.close (tie.spec set-seq-count-requires edited-requires returns)
