@@ -127,7 +127,7 @@ static const struct section checksum = {
      ITSELF("itself, table of 256", rust_table)
      ITSELF("itself, sixteen tables", rust_sixteen)
      ITSELF("itself, bit steps", rust_bits)
-     {"port, table of 256", port_table},
+     {"port, table of 16", port_table},
      {"port, no table", port_no_table}},
     {13, 64, 256, 4096, LONGEST},
 };

@@ -1,5 +1,5 @@
 // The packet error control of ECSS-E-ST-70-41C, annex B: the checksum that the Rust takes from its crate `crc` as
-// CRC_16_IBM_3740, with a table of 256 entries and with none. No call refuses anything.
+// CRC_16_IBM_3740, with a table of 16 entries and with none. No call refuses anything.
 ghost use mathlib.Core.Path.{_≡_};
 ghost use mathlib.Core.List.{[]};
 ghost use Rattle.crc_register.specs.Crc.{crcOf};

@@ -60,10 +60,6 @@ unfolding octetBits addBits
 octetBits-⊕ a b =
     rw (bit-shr 7 a b, bit-shr 6 a b, bit-shr 5 a b, bit-shr 4 a b, bit-shr 3 a b, bit-shr 2 a b, bit-shr 1 a b, bit-⊕ a b)
 
-pub octet-⊕ : (r q a b : ℕ) → run (r ⊕ q) (octetBits (a ⊕ b)) ≡ run r (octetBits a) ⊕ run q (octetBits b)
-unfolding octetBits
-octet-⊕ r q a b = ap (run (r ⊕ q)) (octetBits-⊕ a b) ∙ run-⊕ (octetBits a) (octetBits b) refl r q
-
 pub crcFrom-cons : (r o : ℕ) (s : List ℕ) → crcFrom r (o ∷ s) ≡ crcFrom (run r (octetBits o)) s
 unfolding crcFrom bitsOf
 crcFrom-cons r o s = run-++ r (octetBits o) (bitsOf s)

@@ -2,18 +2,18 @@
 use mathlib.Core.Path.{refl}
 use Prim.Native.Nat.{_-_}
 use native.Mathlib.Omega.{arith}
+use borrow.Author.Needs.{needs}
 use lib.ListN.{length}
-use Rattle.crc_register.specs.Crc.{_⊕_, bit, shiftIn, run, octetBits, crcFrom}
-use Rattle.crc_register.specs.Table.{entry, entries}
+use Rattle.crc_register.specs.Crc.{crcFrom}
 use Rattle.crc_register.proofs.Linear.{StillMakes, turn, end}
 use Rattle.crc_register.proofs.table_from.Statement.{statement}
 use Rattle.crc_register.proofs.table_from.Tie as tie
 
 abbrev Inv-loop : tie.InvT-loop
-Inv-loop register s t r₀ i₀ r i = StillMakes s (crcFrom register s) i r
+Inv-loop register s r₀ i₀ r i = StillMakes s (crcFrom register s) i r
 
 abbrev μ-loop : tie.MeasureT-loop
-μ-loop register s t r₀ i₀ r i = length s - i
+μ-loop register s r₀ i₀ r i = length s - i
 
 loop-holds : tie.Need-loop-holds Inv-loop μ-loop
 loop-holds c = record { kept = refl }
@@ -21,10 +21,8 @@ loop-holds c = record { kept = refl }
 shared-slice-read-table-octet : tie.Need-shared-slice-read-table-octet Inv-loop μ-loop
 shared-slice-read-table-octet c = omega arith
 
--- the table's rule: a test of each of its 256 entries, which antt computes
 table-octet-requires : tie.Need-table-octet-requires Inv-loop μ-loop
-unfolding _⊕_ bit shiftIn run octetBits entry entries
-table-octet-requires c κs = refl
+table-octet-requires c κs = search needs
 
 add-i : tie.Need-add-i Inv-loop μ-loop
 add-i c = omega arith
@@ -33,7 +31,7 @@ loop-less : tie.Need-loop-less Inv-loop μ-loop
 loop-less c = omega arith
 
 loop-again : tie.Need-loop-again Inv-loop μ-loop
-loop-again c = turn (c .before .before .before .before .loop .inv) (omega arith) (c .table-octet .ensures)
+loop-again c = turn (c .before .before .before .loop .inv) (omega arith) (c .table-octet .ensures)
 
 returns : tie.Need-returns Inv-loop μ-loop
 returns c = end (c .before .loop .inv) (omega arith)

@@ -1,33 +1,25 @@
--- `crc_register::table_octet` meets its contract: the table has the entry.
+-- `crc_register::table_octet` meets its contract: the high half, then the low half.
 use mathlib.Core.Path.{ap, _∙_}
-use mathlib.Core.List.{List}
-use Prim.Native.Nat.{ℕ, _/_}
-use native.Mathlib.Omega.{arith}
-use lib.ListN.{getD}
-use Rattle.crc_register.specs.Crc.{_⊕_}
-use Rattle.crc_register.proofs.Octet.{table-entry, by-entry, index-lt}
+use Prim.Native.Nat.{ℕ, _%_}
+use borrow.Author.Needs.{needs}
+use Rattle.crc_register.specs.Crc.{run}
+use Rattle.crc_register.specs.Table.{halfBits}
+use Rattle.crc_register.proofs.Octet.{by-halves}
 use Rattle.crc_register.proofs.table_octet.Statement.{statement}
 use Rattle.crc_register.proofs.table_octet.Tie as tie
 
-cast-x : tie.Need-cast-x
-unfolding _⊕_
-cast-x c = omega (arith, index-lt (c .args .r) (c .args .b) (omega arith) (omega arith))
+table-half-requires : tie.Need-table-half-requires
+table-half-requires c κs = search needs
 
-mul-result : tie.Need-mul-result
-unfolding _⊕_
-mul-result c = omega (arith, index-lt (c .args .r) (c .args .b) (omega arith) (omega arith))
-
-element-copy-out-result : tie.Need-element-copy-out-result
-unfolding _⊕_
-element-copy-out-result c = omega (arith, index-lt (c .args .r) (c .args .b) (omega arith) (omega arith))
+table-half-requires-2 : tie.Need-table-half-requires-2
+table-half-requires-2 c κs = search needs
 
 returns : tie.Need-returns
-unfolding _⊕_
 returns c =
-    let a = c .before .args in
-    by-entry (a .r) (a .b) (omega arith)
-    (ap (λ (l : List ℕ). getD l (a .r / 256 ⊕ a .b) 0) (c .before .pre)
-    ∙ table-entry (a .r / 256 ⊕ a .b) (index-lt (a .r) (a .b) (omega arith) (omega arith)))
+    let a = c .before .before .args in
+    c .table-half2 .ensures
+    ∙ ap (λ (x : ℕ). run x (halfBits (a .b % 16))) (c .before .table-half .ensures)
+    ∙ by-halves (a .r) (a .b)
 
 pub table-octet-spec : {M : Type 1} → statement M
-table-octet-spec = tie.close (tie.spec cast-x mul-result element-copy-out-result returns)
+table-octet-spec = tie.close (tie.spec table-half-requires table-half-requires-2 returns)
