@@ -1,0 +1,1 @@
+// No public call answers 5: theorems only, in proofs/.
