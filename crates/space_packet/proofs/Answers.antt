@@ -7,7 +7,7 @@ use mathlib.Core.List.{List, [], _∷_, _++_}
 use native.Mathlib.Omega.{arith}
 use lib.ListN.{getD, drop}
 use lib.Dec.{eqb, ltb}
-use borrow.Author.Tests.{lt-ltb, le-ltb, ltb-false}
+use borrow.Author.Tests.{lt-ltb, le-ltb, ltb-false, eqb-false}
 use Rattle.space_packet.specs.Bits.{pick}
 use Rattle.space_packet.specs.Answer.{Numbers, Answer, Passed, gives, refuses, refusal, refuseIf, _then_, setIf, inRange, inBuffer, numbersOf}
 use Rattle.space_packet.specs.Header.{leftBy}
@@ -157,7 +157,6 @@ errorOf n =
     (pick (eqb (n .number) 2) (E.ByteConversion (FromSliceTooSmall (getD (n .values) 0 0) (getD (n .values) 1 0)))
     (pick (eqb (n .number) 3) (E.VersionNotSupported (getD (n .values) 0 0))
     (pick (eqb (n .number) 4) (E.ChecksumFailure (getD (n .values) 0 0) (getD (n .values) 1 0))
-    (pick (eqb (n .number) 5) E.CrcCalculationMissing
     (pick (eqb (n .number) 6) (E.PacketTooLong (getD (n .values) 0 0))
     (pick (eqb (n .number) 7) (E.FieldRange (getD (n .values) 0 0) (getD (n .values) 1 0))
     (pick (eqb (n .number) 8) E.Reservation
@@ -165,7 +164,7 @@ errorOf n =
     (pick (eqb (n .number) 10) E.PacketTypeTm
     (pick (eqb (n .number) 11) E.NoSecondaryHeader
     (pick (eqb (n .number) 12) E.IdleApid
-    (pick (eqb (n .number) 13) E.PacketTypeTc (pick (eqb (n .number) 14) E.TimeLength E.SourceWidth)))))))))))))
+    (pick (eqb (n .number) 13) E.PacketTypeTc (pick (eqb (n .number) 14) E.TimeLength E.SourceWidth))))))))))))
 
 pub error-back : (e : PusError) → errorOf (numbersOf e) ≡ e
 unfolding errorOf
@@ -173,7 +172,6 @@ error-back (E.ByteConversion (ToSliceTooSmall a b)) = refl
 error-back (E.ByteConversion (FromSliceTooSmall a b)) = refl
 error-back (E.VersionNotSupported v) = refl
 error-back (E.ChecksumFailure s c) = refl
-error-back E.CrcCalculationMissing = refl
 error-back (E.PacketTooLong n) = refl
 error-back (E.FieldRange p v) = refl
 error-back E.Reservation = refl
@@ -187,6 +185,26 @@ error-back E.SourceWidth = refl
 
 pub numbers-inj : (e f : PusError) → numbersOf e ≡ numbersOf f → e ≡ f
 numbers-inj = by-inverse numbersOf errorOf error-back
+
+-- 5 is retired: no refusal has its number
+not-five : (e : PusError) → eqb (numbersOf e .number) 5 ≡ false
+not-five (E.ByteConversion (ToSliceTooSmall a b)) = refl
+not-five (E.ByteConversion (FromSliceTooSmall a b)) = refl
+not-five (E.VersionNotSupported v) = refl
+not-five (E.ChecksumFailure s c) = refl
+not-five (E.PacketTooLong n) = refl
+not-five (E.FieldRange p v) = refl
+not-five E.Reservation = refl
+not-five (E.PacketVersion n) = refl
+not-five E.PacketTypeTm = refl
+not-five E.NoSecondaryHeader = refl
+not-five E.IdleApid = refl
+not-five E.PacketTypeTc = refl
+not-five E.TimeLength = refl
+not-five E.SourceWidth = refl
+
+pub no-five : (e : PusError) → numbersOf e .number ≡ 5 → ⊥
+no-five e = eqb-false _ 5 (not-five e)
 
 -- the result of an answer, by its two constructors: what each result's answer is undone by
 unfoldable pub resultOf : {A R : Type 0} → (A → R) → (PusError → R) → Answer A → R

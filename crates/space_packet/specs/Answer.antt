@@ -51,7 +51,7 @@ unfoldable pub setIf : {A : Type 0} → Passed → A → A → Kept A
 setIf (refuses e) old new = record { passed = refuses e; kept = old }
 setIf (gives u) old new = record { passed = gives u; kept = new }
 
--- ---- the numbers of refusal
+-- ---- the numbers of refusal; 5 is retired, which is the theorem `no-five`
 
 abbrev pub bytesNumbers : ByteConversionError → Numbers
 bytesNumbers (ToSliceTooSmall found expected) = refusal 1 (found ∷ expected ∷ [])
@@ -61,7 +61,6 @@ abbrev pub numbersOf : PusError → Numbers
 numbersOf (E.ByteConversion e) = bytesNumbers e
 numbersOf (E.VersionNotSupported nibble) = refusal 3 (nibble ∷ [])
 numbersOf (E.ChecksumFailure stored computed) = refusal 4 (stored ∷ computed ∷ [])
-numbersOf E.CrcCalculationMissing = refusal 5 []
 numbersOf (E.PacketTooLong length) = refusal 6 (length ∷ [])
 numbersOf (E.FieldRange place value) = refusal 7 (place ∷ value ∷ [])
 numbersOf E.Reservation = refusal 8 []

@@ -24,7 +24,7 @@ pub enum ByteConversionError {
     FromSliceTooSmall { found: usize, expected: usize },
 }
 
-// Every refusal of the library, in the order of its numbers.
+// Every refusal of the library, in the order of its numbers. 5 is retired: it was the Rust's CrcCalculationMissing, and stays unused.
 pub enum PusError {
     // 1 and 2
     ByteConversion(ByteConversionError),
@@ -32,8 +32,6 @@ pub enum PusError {
     VersionNotSupported(u8),
     // 4, with the checksum that was stored, or handed in, and the one computed over all but the last two octets
     ChecksumFailure { stored: u16, computed: u16 },
-    // 5
-    CrcCalculationMissing,
     // 6, with the length of the application data
     PacketTooLong(usize),
     // 7: place 1 is the packet version number, 2 the APID, 3 the sequence count, 4 the acknowledgement flags, of telemetry the
@@ -102,7 +100,6 @@ impl PusError {
             PusError::ChecksumFailure { stored, computed } => {
                 in_numbers(4, 2, stored as u64, computed as u64)
             }
-            PusError::CrcCalculationMissing => in_numbers(5, 0, 0, 0),
             PusError::PacketTooLong(length) => in_numbers(6, 1, length as u64, 0),
             PusError::FieldRange { place, value } => in_numbers(7, 2, place as u64, value as u64),
             PusError::Reservation => in_numbers(8, 0, 0, 0),

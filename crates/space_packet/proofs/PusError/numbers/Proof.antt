@@ -37,17 +37,11 @@ cast-in-numbers-3 c = search needs
 in-numbers-requires-2 : tie.Need-in-numbers-requires-2
 in-numbers-requires-2 c κs = search needs
 
-enum-told : tie.Need-enum-told
-enum-told c = search needs
-
-in-numbers-requires-3 : tie.Need-in-numbers-requires-3
-in-numbers-requires-3 c κs = search needs
-
 enum-known-self-4 : tie.Need-enum-known-self-4
 enum-known-self-4 c = search needs
 
-in-numbers-requires-4 : tie.Need-in-numbers-requires-4
-in-numbers-requires-4 c κs = search needs
+in-numbers-requires-3 : tie.Need-in-numbers-requires-3
+in-numbers-requires-3 c κs = search needs
 
 enum-known-self-5 : tie.Need-enum-known-self-5
 enum-known-self-5 c = search needs
@@ -58,20 +52,26 @@ cast-in-numbers-4 c = search needs
 cast-in-numbers-5 : tie.Need-cast-in-numbers-5
 cast-in-numbers-5 c = search needs
 
+in-numbers-requires-4 : tie.Need-in-numbers-requires-4
+in-numbers-requires-4 c κs = search needs
+
+enum-told : tie.Need-enum-told
+enum-told c = search needs
+
 in-numbers-requires-5 : tie.Need-in-numbers-requires-5
 in-numbers-requires-5 c κs = search needs
-
-enum-told-2 : tie.Need-enum-told-2
-enum-told-2 c = search needs
-
-in-numbers-requires-6 : tie.Need-in-numbers-requires-6
-in-numbers-requires-6 c κs = search needs
 
 enum-known-self-6 : tie.Need-enum-known-self-6
 enum-known-self-6 c = search needs
 
 cast-in-numbers-6 : tie.Need-cast-in-numbers-6
 cast-in-numbers-6 c = search needs
+
+in-numbers-requires-6 : tie.Need-in-numbers-requires-6
+in-numbers-requires-6 c κs = search needs
+
+enum-told-2 : tie.Need-enum-told-2
+enum-told-2 c = search needs
 
 in-numbers-requires-7 : tie.Need-in-numbers-requires-7
 in-numbers-requires-7 c κs = search needs
@@ -106,12 +106,6 @@ enum-told-7 c = search needs
 in-numbers-requires-12 : tie.Need-in-numbers-requires-12
 in-numbers-requires-12 c κs = search needs
 
-enum-told-8 : tie.Need-enum-told-8
-enum-told-8 c = search needs
-
-in-numbers-requires-13 : tie.Need-in-numbers-requires-13
-in-numbers-requires-13 c κs = search needs
-
 returns : tie.Need-returns
 returns c = told (c .numbers .ensures) (c .before .before .self .given .1)
 
@@ -122,19 +116,19 @@ returns-3 : tie.Need-returns-3
 returns-3 c = told (c .in-numbers2 .ensures) (c .before .before .self3 .given .1)
 
 returns-4 : tie.Need-returns-4
-returns-4 c = told (c .in-numbers3 .ensures) (c .before .enum-told .given .1)
+returns-4 c = told (c .in-numbers3 .ensures) (c .before .before .self4 .given .1)
 
 returns-5 : tie.Need-returns-5
-returns-5 c = told (c .in-numbers4 .ensures) (c .before .before .self4 .given .1)
+returns-5 c = told (c .in-numbers4 .ensures) (c .before .before .self5 .given .1)
 
 returns-6 : tie.Need-returns-6
-returns-6 c = told (c .in-numbers5 .ensures) (c .before .before .self5 .given .1)
+returns-6 c = told (c .in-numbers5 .ensures) (c .before .enum-told .given .1)
 
 returns-7 : tie.Need-returns-7
-returns-7 c = told (c .in-numbers6 .ensures) (c .before .enum-told2 .given .1)
+returns-7 c = told (c .in-numbers6 .ensures) (c .before .before .self6 .given .1)
 
 returns-8 : tie.Need-returns-8
-returns-8 c = told (c .in-numbers7 .ensures) (c .before .before .self6 .given .1)
+returns-8 c = told (c .in-numbers7 .ensures) (c .before .enum-told2 .given .1)
 
 returns-9 : tie.Need-returns-9
 returns-9 c = told (c .in-numbers8 .ensures) (c .before .enum-told3 .given .1)
@@ -151,9 +145,6 @@ returns-12 c = told (c .in-numbers11 .ensures) (c .before .enum-told6 .given .1)
 returns-13 : tie.Need-returns-13
 returns-13 c = told (c .in-numbers12 .ensures) (c .before .enum-told7 .given .1)
 
-returns-14 : tie.Need-returns-14
-returns-14 c = told (c .in-numbers13 .ensures) (c .before .enum-told8 .given .1)
-
 pub numbers-spec : {M : Type 1} → statement M
 numbers-spec =
     tie.close
@@ -167,18 +158,18 @@ numbers-spec =
     cast-in-numbers-2
     cast-in-numbers-3
     in-numbers-requires-2
-    enum-told
-    in-numbers-requires-3
     enum-known-self-4
-    in-numbers-requires-4
+    in-numbers-requires-3
     enum-known-self-5
     cast-in-numbers-4
     cast-in-numbers-5
+    in-numbers-requires-4
+    enum-told
     in-numbers-requires-5
-    enum-told-2
-    in-numbers-requires-6
     enum-known-self-6
     cast-in-numbers-6
+    in-numbers-requires-6
+    enum-told-2
     in-numbers-requires-7
     enum-told-3
     in-numbers-requires-8
@@ -190,8 +181,6 @@ numbers-spec =
     in-numbers-requires-11
     enum-told-7
     in-numbers-requires-12
-    enum-told-8
-    in-numbers-requires-13
     returns
     returns-2
     returns-3
@@ -204,5 +193,4 @@ numbers-spec =
     returns-10
     returns-11
     returns-12
-    returns-13
-    returns-14)
+    returns-13)

@@ -1,1 +1,0 @@
-// No public call answers 5: theorems only, in proofs/.
