@@ -4,8 +4,8 @@
 It speaks the protocol of docs/PROTOCOL.md, one request a line in and one answer a line out, and was written from the
 layout, the table of refusals and the orders of refusals, without a look at the port or at the crate. The checksum is
 Python's own, binascii.crc_hqx. Unlike the crate it also has an answer outside the domain of equality (a field over its
-width, a version other than C, a total above 65,542 octets), to `strict` and `split`, and to requests in PUS A and of
-telemetry.
+width, a version other than C, a total above 65,542 octets), to `strict`, `split` and `track`, and to requests in PUS A and
+of telemetry. What is open it works out from all calls so far, each time anew.
 
     tools/model.py <requests >answers
 """
@@ -398,6 +398,69 @@ def split(octets):
     return words + [f'end:{len(octets)}']
 
 
+# Open commands.
+
+KINDS = {8: 1, 4: 3, 2: 5, 1: 7}        # the acknowledgement bits, and the success that each asks for; its failure is one more
+ENDS = {2, 4, 7, 8}                     # completion, and a failure of acceptance or start
+
+
+def report(octets, time_len):
+    """The request and the subtype of a report. 15: not a strictly accepted report of its shape."""
+    try:
+        reader = strict(octets, telemetry(time_len))
+    except Refused:
+        raise Refused(15)
+    subtype = reader.sec.subtype
+    size = 4 + (subtype in (5, 6)) + 2 * (subtype % 2 == 0)
+    refuse_if(reader.sec.service != 1 or not 1 <= subtype <= 8 or len(reader.data) != size, 15)
+    return reader.data[:4], subtype
+
+
+class History:
+    """The commands that were taken and the reports that came, in order. There is no list of what is open."""
+
+    def __init__(self, time_len):
+        self.time_len, self.calls = time_len, []
+
+    def closed(self, at):
+        """Whether the calls since have closed the command that was sent at this place."""
+        _, request, asked = self.calls[at]
+        came = {number for call, other, number in self.calls[at + 1:] if call == 'r' and other == request}
+        awaited = [success for bit, success in KINDS.items() if asked & bit]
+        return bool(came & ENDS) or 7 not in awaited and all(came & {success, success + 1} for success in awaited)
+
+    def open(self):
+        """The requests that are open, in the order of sending."""
+        return [request for at, (call, request, asked) in enumerate(self.calls)
+                if call == 's' and asked and not self.closed(at)]
+
+    def send(self, octets):
+        """The strict verdict's refusals; 17, 18, unless nothing is asked for."""
+        asked, request = strict(octets).sec.ack, octets[:4]
+        refuse_if(asked and request in self.open(), 17)
+        refuse_if(asked and len(self.open()) == 32, 18)
+        self.calls.append(('s', request, asked))
+        return 'ok'
+
+    def report(self, octets):
+        """15, 16. A report on a command that is not open has come all the same."""
+        request, subtype = report(octets, self.time_len)
+        was_open = request in self.open()
+        self.calls.append(('r', request, subtype))
+        refuse_if(not was_open, 16)
+        return 'ok'
+
+    def is_open(self, request):
+        return int(request in self.open())
+
+
+def track(time_len, calls):
+    history = History(time_len)
+    answers = {'s': history.send, 'r': history.report, 'o': history.is_open}
+    words = [outcome(answers[letter], octets) for letter, octets in calls]
+    return words + ['open:' + (','.join(map(text, history.open())) or '-')]
+
+
 # The words of the protocol.
 
 def text(octets):
@@ -463,6 +526,17 @@ def list_of(grammar):
             items.append((name, grammar[name](values) if equals else []))
         return items
     return read
+
+
+def CALLS(word):
+    """Calls with `;` between, each a letter, `:` and octets, of a request ID four; `-` for none."""
+    calls = []
+    for item in [] if word == '-' else word.split(';'):
+        letter, colon, octets = item.partition(':')
+        if letter not in ('s', 'r', 'o') or not colon or letter == 'o' and len(octets) != 8:
+            raise BadRequest
+        calls.append((letter, octets_of(octets)))
+    return calls
 
 
 U8, U16, U64 = up_to(255), up_to(65535), up_to(MACHINE)
@@ -604,6 +678,7 @@ REQUESTS = {
     'consts': (do_consts, []),
     'strict': (do_strict, [DATA]),
     'split': (split, [DATA]),
+    'track': (track, [U8, CALLS]),
 }
 IN_PUS_A = {kind: REQUESTS[kind] for kind in ('read', 'create', 'build', 'strict')}
 IN_TELEMETRY = {

@@ -13,6 +13,8 @@ out at every run.
     grammar  lines that are no request, and their neighbours that are
     pus_a    PUS A at each source width: read, judged, created and built, at the edges and refused; other widths
     telemetry  reports at time lengths from 0 to 16: read, judged, created and reserved; other lengths; their grammar
+    track    histories of the tracker: every pair of reports for every choice of acknowledgements, full tables, duplicates,
+             reports that are none, random histories, and the grammar of the calls
 
     tools/vectors.py FOLDER
 """
@@ -643,9 +645,134 @@ def tm_grammar():
     yield f'in t1 reserve {TM_SP} {PONG} A0 18446744073709551616 1 - f 00'
 
 
+def command(count, asked, apid=291):
+    """A command with this sequence count that asks for these acknowledgements, and its request ID."""
+    packet = tc(sp=(0, 1, 1, apid, 3, count, 0), sec=(2, asked, 17, 1, 0))
+    return packet, packet[:4]
+
+
+def report_data(request, subtype):
+    """What a report of this subtype has: the request ID, a step in progress reports, a code in failures."""
+    return request + b'\x05' * (subtype in (5, 6)) + b'\x00\x09' * (subtype % 2 == 0)
+
+
+def report(request, subtype, time_len=0, service=1, data=None):
+    data = report_data(request, subtype) if data is None else data
+    return tm(telemetry(time_len), data, fields=(2, 0, service, subtype, 0, 0))
+
+
+def calls(*made):
+    """The calls of a request: a letter and octets each."""
+    return ';'.join(f'{letter}:{text(octets)}' for letter, octets in made) or '-'
+
+
+def track_requests(rng):
+    packet, request = command(5, 15)
+    for time_len in (0, 1, 7, 16, 17, 255):
+        yield f'track {time_len} -'
+        yield f'track {time_len} {calls(("s", packet), ("r", report(request, 1, min(time_len, 16))), ("o", request))}'
+    yield from track_pairs()
+    yield from track_tables()
+    yield from track_malformed()
+    yield from (track_history(rng, rng.choice((0, 7))) for _ in range(150))
+    yield from track_grammar()
+
+
+def track_pairs():
+    """Each choice of acknowledgements with each report, and each report after it."""
+    for asked, first in itertools.product(range(16), range(1, 9)):
+        made = []
+        for second in range(1, 9):
+            packet, request = command(second, asked)
+            made += [('s', packet), ('r', report(request, first)), ('o', request), ('r', report(request, second)), ('o', request)]
+        yield f'track 0 {calls(*made)}'
+    for asked in range(16):                                # all successes in order, and all failures of progress
+        packet, request = command(1, asked)
+        for subtypes in (1, 3, 5, 5, 7), (6, 6, 1, 3, 8), (3, 1, 5), (5, 3, 1), (1, 2), (5, 4):
+            yield f'track 0 {calls(("s", packet), *(("r", report(request, subtype)) for subtype in subtypes))}'
+
+
+def track_tables():
+    """A request that is open already, and tables that are full."""
+    packet, request = command(5, 15)
+    nothing = command(5, 0)[0]
+    yield f'track 0 {calls(("s", packet), ("s", packet), ("o", request), ("s", nothing), ("o", request), ("r", report(request, 7)))}'
+    yield f'track 0 {calls(("s", nothing), ("o", request), ("r", report(request, 7)), ("s", packet), ("s", packet))}'
+    yield f'track 0 {calls(("s", packet), ("r", report(request, 2)), ("s", packet), ("o", request), ("r", report(request, 8)))}'
+    yield f'track 0 {calls(("s", packet + b"more"), ("r", report(request, 7) + b"more"))}'
+    full = [('s', command(count, 9)[0]) for count in range(32)]
+    extra, other = command(100, 1)
+    yield f'track 0 {calls(*full[:31], ("s", extra), ("o", other))}'
+    for more in (extra, command(100, 0)[0], command(7, 9)[0], command(7, 0)[0], extra[:-1], with_octet(extra, 6, 0x31)):
+        yield f'track 0 {calls(*full, ("s", more))}'
+    for count in 0, 13, 31:                                # a place that is used again, behind the others
+        made = ('s', extra), ('r', report(command(count, 9)[1], 7)), ('s', extra), ('o', other), ('s', full[count][1])
+        yield f'track 0 {calls(*full, *made)}'
+    closing = [('r', report(command(count, 9)[1], 8)) for count in range(31, -1, -1)]
+    yield f'track 0 {calls(*full, *closing, *full[:3])}'
+    near = [tc(sp=(0, 1, 1, apid, flags, count, 0), sec=(2, 8, 17, 1, 0)) for apid, flags, count in
+            ((291, 3, 5), (292, 3, 5), (1315, 3, 5), (291, 1, 5), (291, 3, 261), (291, 3, 6))]
+    for octets in near:                                    # each octet of a request ID counts
+        yield f'track 0 {calls(*(("s", one) for one in near), ("r", report(octets[:4], 1)), *(("o", one[:4]) for one in near))}'
+
+
+def track_malformed():
+    """Telemetry that is no report, on a command that is open."""
+    packet, request = command(5, 8)                        # acceptance, whose coming would close it
+    sent = 's', packet
+    for service, subtype in (0, 1), (2, 1), (17, 2), (255, 7), (1, 0), (1, 9), (1, 10), (1, 255):
+        yield f'track 0 {calls(sent, ("r", report(request, subtype, service=service)))}'
+    for subtype, size in itertools.product(range(1, 9), range(9)):
+        one, _ = command(5, 8 >> (subtype - 1) // 2)       # asks for just this kind
+        yield f'track 0 {calls(("s", one), ("r", report(request, subtype, data=(request + bytes(5))[:size])), ("o", request))}'
+    good = report(request, 1, 7)
+    wrong = (good[:-1] + bytes([good[-1] ^ 1]), good[:-1], b'', packet, with_octet(good, 0, 0x29), with_octet(good, 0, 0x19),
+             with_octet(good, 0, 0x01), with_octet(good, 6, 0x10), with_octet(with_octet(good, 0, 0x0F), 1, 0xFF),
+             report(request, 1, 6), report(request, 1, 8), report(request, 2, 5))
+    for octets in (*wrong, good):
+        yield f'track 7 {calls(sent, ("r", octets), ("o", request))}'
+    other = command(6, 15)[1]
+    yield f'track 7 {calls(sent, ("r", report(other, 7, 7)), ("r", report(other, 9, 7)), ("o", request), ("o", other))}'
+    for octets in (packet[:-1], packet[:-1] + b'\0', with_octet(packet, 0, 0x39), with_octet(packet, 0, 0x09),
+                   with_octet(packet, 0, 0x11), with_octet(packet, 6, 0x1F), with_octet(with_octet(packet, 0, 0x1F), 1, 0xFF), b''):
+        yield f'track 7 {calls(("s", octets), ("r", report(request, 1, 7)))}'
+
+
+def track_history(rng, time_len, most=80):
+    """Commands and reports by chance: duplicates, full tables, reports out of order, unasked, and malformed."""
+    pool, sending = rng.choice(((3, 0.5), (10, 0.4), (60, 0.85)))
+    made = []
+    for _ in range(rng.randint(1, most)):
+        asked = rng.choice((0, 1, 8, 9, 15, rng.randrange(16)))
+        packet, request = command(rng.randrange(pool), asked, rng.choice((291, 291, 292)))
+        way = rng.random()
+        if way < sending:
+            made.append(('s', packet if rng.random() < 0.95 else packet[:rng.randrange(13)]))
+        elif way < 0.95:
+            octets = report(request, rng.choice((1, 3, 5, 7, rng.randint(0, 9))), time_len)
+            if rng.random() < 0.05:
+                octets = with_octet(octets, rng.randrange(len(octets) - 2), rng.randrange(256))
+            made.append(('r', octets))
+        else:
+            made.append(('o', request))
+    return f'track {time_len} {calls(*made)}'
+
+
+def track_grammar():
+    packet, _ = command(5, 15)
+    yield from ('track', 'track ', 'track 0', 'track 0 ', 'track 0 - -', 'track  0 -', 'track -', 'track - -', 'track -1 -',
+                'track 256 -', 'track 007 -', 'track 0x0 -', 'Track 0 -', 'in a8 track 0 -', 'in t7 track 0 -', 'track 0 in')
+    for made in (';', '-;', 's', 's:', 's:0', 's:-', 's:-;', ';s:-', 's:-;;s:-', 's:-;r:-', 'r:-', 'r', 'r:', 'r:0', 'o', 'o:',
+                 'o:-', 'o:0', 'o:1923C0', 'o:1923C005', 'o:1923C00500', 'o:1923c005', 'o:1923C00', 'x:00', ':00', '00', 'S:00',
+                 'R:00', 'O:1923C005', 's:00:', 's:00:00', 'so:00', 's=00', 's:ab', 's:0G', 's:00,r:00', 's: 00', 'o:1923C005;-',
+                 f's:{text(packet)};o:1923C005', f's:{text(packet).lower()}', f's:{text(packet)};x', f's:{text(packet)};r:1'):
+        yield f'track 0 {made}'
+    yield 'track 256 s:0'
+
+
 FILES = {'crc': crc_requests, 'header': header_requests, 'write': write_requests, 'limits': limits_requests,
          'read': read_requests, 'strict': strict_requests, 'grammar': grammar_requests, 'pus_a': pus_a_requests,
-         'telemetry': telemetry_requests}
+         'telemetry': telemetry_requests, 'track': track_requests}
 
 
 def main():

@@ -146,7 +146,7 @@ fn among(word: &[u8], names: &[u8]) -> Value {
 }
 
 // A number of at most `most`; where that is one digit, one character.
-fn within(s: &[u8], most: &[u8]) -> Value {
+pub(crate) fn within(s: &[u8], most: &[u8]) -> Value {
     if most.len() == 1 && s.len() != 1 {
         return Value::Bad;
     }

@@ -7,6 +7,7 @@ mod items;
 mod read;
 mod show;
 mod telemetry;
+mod track;
 mod verdict;
 mod write;
 
@@ -34,6 +35,9 @@ enum Form {
 fn reply(line: &[u8], a: &mut [u8], b: &mut [u8]) {
     if check::same(text::piece(line, 32, 0), b"in") {
         return reply_in(text::piece(line, 32, 1), behind(behind(line)), a, b);
+    }
+    if check::same(text::piece(line, 32, 0), b"track") {
+        return track::reply(line, a);
     }
     reply_to(Form::Tc(TcForm::PUS_C), kind(line), line, a, b)
 }

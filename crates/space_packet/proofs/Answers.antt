@@ -164,7 +164,11 @@ errorOf n =
     (pick (eqb (n .number) 10) E.PacketTypeTm
     (pick (eqb (n .number) 11) E.NoSecondaryHeader
     (pick (eqb (n .number) 12) E.IdleApid
-    (pick (eqb (n .number) 13) E.PacketTypeTc (pick (eqb (n .number) 14) E.TimeLength E.SourceWidth))))))))))))
+    (pick (eqb (n .number) 13) E.PacketTypeTc
+    (pick (eqb (n .number) 14) E.TimeLength
+    (pick (eqb (n .number) 15) E.NotAReport
+    (pick (eqb (n .number) 16) E.RequestNotOpen
+    (pick (eqb (n .number) 17) E.RequestOpen (pick (eqb (n .number) 18) E.TrackerFull E.SourceWidth))))))))))))))))
 
 pub error-back : (e : PusError) → errorOf (numbersOf e) ≡ e
 unfolding errorOf
@@ -181,6 +185,10 @@ error-back E.NoSecondaryHeader = refl
 error-back E.IdleApid = refl
 error-back E.PacketTypeTc = refl
 error-back E.TimeLength = refl
+error-back E.NotAReport = refl
+error-back E.RequestNotOpen = refl
+error-back E.RequestOpen = refl
+error-back E.TrackerFull = refl
 error-back E.SourceWidth = refl
 
 pub numbers-inj : (e f : PusError) → numbersOf e ≡ numbersOf f → e ≡ f
@@ -201,6 +209,10 @@ not-five E.NoSecondaryHeader = refl
 not-five E.IdleApid = refl
 not-five E.PacketTypeTc = refl
 not-five E.TimeLength = refl
+not-five E.NotAReport = refl
+not-five E.RequestNotOpen = refl
+not-five E.RequestOpen = refl
+not-five E.TrackerFull = refl
 not-five E.SourceWidth = refl
 
 pub no-five : (e : PusError) → numbersOf e .number ≡ 5 → ⊥

@@ -70,6 +70,10 @@ numbersOf E.NoSecondaryHeader = refusal 11 []
 numbersOf E.IdleApid = refusal 12 []
 numbersOf E.PacketTypeTc = refusal 13 []
 numbersOf E.TimeLength = refusal 14 []
+numbersOf E.NotAReport = refusal 15 []
+numbersOf E.RequestNotOpen = refusal 16 []
+numbersOf E.RequestOpen = refusal 17 []
+numbersOf E.TrackerFull = refusal 18 []
 numbersOf E.SourceWidth = refusal 32 []
 
 -- written out, with 0 for a value that it has not

@@ -51,6 +51,14 @@ pub enum PusError {
     PacketTypeTc,
     // 14: a time length above 16, or a time field of another length than the mission's
     TimeLength,
+    // 15: not a strictly accepted report of service 1 with the data of its subtype
+    NotAReport,
+    // 16
+    RequestNotOpen,
+    // 17
+    RequestOpen,
+    // 18: 32 commands are open
+    TrackerFull,
     // 32: a source ID of another width than 0, 8 and 16 bits
     SourceWidth,
 }
@@ -109,6 +117,10 @@ impl PusError {
             PusError::IdleApid => in_numbers(12, 0, 0, 0),
             PusError::PacketTypeTc => in_numbers(13, 0, 0, 0),
             PusError::TimeLength => in_numbers(14, 0, 0, 0),
+            PusError::NotAReport => in_numbers(15, 0, 0, 0),
+            PusError::RequestNotOpen => in_numbers(16, 0, 0, 0),
+            PusError::RequestOpen => in_numbers(17, 0, 0, 0),
+            PusError::TrackerFull => in_numbers(18, 0, 0, 0),
             PusError::SourceWidth => in_numbers(32, 0, 0, 0),
         }
     }

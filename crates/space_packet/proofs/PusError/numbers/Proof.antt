@@ -106,6 +106,30 @@ enum-told-7 c = search needs
 in-numbers-requires-12 : tie.Need-in-numbers-requires-12
 in-numbers-requires-12 c κs = search needs
 
+enum-told-8 : tie.Need-enum-told-8
+enum-told-8 c = search needs
+
+in-numbers-requires-13 : tie.Need-in-numbers-requires-13
+in-numbers-requires-13 c κs = search needs
+
+enum-told-9 : tie.Need-enum-told-9
+enum-told-9 c = search needs
+
+in-numbers-requires-14 : tie.Need-in-numbers-requires-14
+in-numbers-requires-14 c κs = search needs
+
+enum-told-10 : tie.Need-enum-told-10
+enum-told-10 c = search needs
+
+in-numbers-requires-15 : tie.Need-in-numbers-requires-15
+in-numbers-requires-15 c κs = search needs
+
+enum-told-11 : tie.Need-enum-told-11
+enum-told-11 c = search needs
+
+in-numbers-requires-16 : tie.Need-in-numbers-requires-16
+in-numbers-requires-16 c κs = search needs
+
 returns : tie.Need-returns
 returns c = told (c .numbers .ensures) (c .before .before .self .given .1)
 
@@ -145,6 +169,18 @@ returns-12 c = told (c .in-numbers11 .ensures) (c .before .enum-told6 .given .1)
 returns-13 : tie.Need-returns-13
 returns-13 c = told (c .in-numbers12 .ensures) (c .before .enum-told7 .given .1)
 
+returns-14 : tie.Need-returns-14
+returns-14 c = told (c .in-numbers13 .ensures) (c .before .enum-told8 .given .1)
+
+returns-15 : tie.Need-returns-15
+returns-15 c = told (c .in-numbers14 .ensures) (c .before .enum-told9 .given .1)
+
+returns-16 : tie.Need-returns-16
+returns-16 c = told (c .in-numbers15 .ensures) (c .before .enum-told10 .given .1)
+
+returns-17 : tie.Need-returns-17
+returns-17 c = told (c .in-numbers16 .ensures) (c .before .enum-told11 .given .1)
+
 pub numbers-spec : {M : Type 1} → statement M
 numbers-spec =
     tie.close
@@ -181,6 +217,14 @@ numbers-spec =
     in-numbers-requires-11
     enum-told-7
     in-numbers-requires-12
+    enum-told-8
+    in-numbers-requires-13
+    enum-told-9
+    in-numbers-requires-14
+    enum-told-10
+    in-numbers-requires-15
+    enum-told-11
+    in-numbers-requires-16
     returns
     returns-2
     returns-3
@@ -193,4 +237,8 @@ numbers-spec =
     returns-10
     returns-11
     returns-12
-    returns-13)
+    returns-13
+    returns-14
+    returns-15
+    returns-16
+    returns-17)

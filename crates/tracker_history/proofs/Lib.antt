@@ -1,0 +1,5 @@
+pub mod Calls
+pub mod Come
+pub mod Distinct
+pub mod Exactly
+pub mod Histories
