@@ -4,8 +4,8 @@
 It speaks the protocol of docs/PROTOCOL.md, one request a line in and one answer a line out, and was written from the
 layout, the table of refusals and the orders of refusals, without a look at the port or at the crate. The checksum is
 Python's own, binascii.crc_hqx. Unlike the crate it also has an answer outside the domain of equality (a field over its
-width, a version other than C, a total above 65,542 octets), to `strict`, `split` and `track`, and to requests in PUS A and
-of telemetry. What is open it works out from all calls so far, each time anew.
+width, a version other than C, a total above 65,542 octets), to `strict`, `split`, `track` and `best`, and to requests in
+PUS A and of telemetry. What is open it works out from all calls so far, each time anew.
 
     tools/model.py <requests >answers
 """
@@ -461,6 +461,19 @@ def track(time_len, calls):
     return words + ['open:' + (','.join(map(text, history.open())) or '-')]
 
 
+# Two captures of one telemetry packet.
+
+def best(time_len, *captures):
+    """The first capture that the strict verdict accepts, and its packet; where there is none, each refusal."""
+    refusals = []
+    for station, octets in zip(('first', 'second'), captures):
+        try:
+            return [station, text(strict(octets, telemetry(time_len)).raw)]
+        except Refused as refusal:
+            refusals.append(refusal)
+    return ['neither', *refusals, '-']
+
+
 # The words of the protocol.
 
 def text(octets):
@@ -679,6 +692,7 @@ REQUESTS = {
     'strict': (do_strict, [DATA]),
     'split': (split, [DATA]),
     'track': (track, [U8, CALLS]),
+    'best': (best, [U8, DATA, DATA]),
 }
 IN_PUS_A = {kind: REQUESTS[kind] for kind in ('read', 'create', 'build', 'strict')}
 IN_TELEMETRY = {

@@ -15,6 +15,8 @@ out at every run.
     telemetry  reports at time lengths from 0 to 16: read, judged, created and reserved; other lengths; their grammar
     track    histories of the tracker: every pair of reports for every choice of acknowledgements, full tables, duplicates,
              reports that are none, random histories, and the grammar of the calls
+    best     two captures of a report: each fault in one, in the other and in both, octets after the packet, empty captures,
+             two packets that both pass, time lengths from 0 to 255, and the grammar of the fields
 
     tools/vectors.py FOLDER
 """
@@ -770,9 +772,53 @@ def track_grammar():
     yield 'track 256 s:0'
 
 
+def best_requests(rng):
+    for length in 0, 7, 16:
+        yield from (f'best {length} {text(one)} {text(other)}' for one, other in best_captures(rng, telemetry(length)))
+    # The same octets at other time lengths, those above 16 among them.
+    packet = tm(telemetry(7), b'\x01\x02')
+    pairs = list(itertools.product((packet, packet[:-1], b''), repeat=2))
+    for length, (one, other) in itertools.product((0, 6, 8, 9, 10, 16, 17, 18, 255), pairs):
+        yield f'best {length} {text(one)} {text(other)}'
+    command = text(tc(bytes(9)))
+    yield from (f'best 7 {captures}' for captures in (f'{command} {text(packet)}', f'{text(packet)} {command}', f'{command} -'))
+    largest = tm(telemetry(16), (bytes(range(256)) * 256)[:65511])
+    yield f'best 16 {text(largest[:-1])} {text(largest + b"tail")}'
+    yield from best_grammar(text(packet))
+
+
+def best_captures(rng, form):
+    """Pairs of captures: damage in one, the other and both, in each way and with each other; octets after the packet."""
+    packet, other = tm(form, b'\x01\x02'), tm(form, b'\x01\x03', (0, 0, 1, 291, 3, 6, 0))
+    damaged = [faulty(packet, [fault]) for fault in FAULTS]
+    tail = rng.randbytes(5)
+    yield from itertools.product((packet, packet + tail, b''), repeat=2)
+    yield from ((packet, other), (other, packet), (packet + tail, other), (other + tail, packet + packet))
+    for octets in damaged:
+        yield from ((octets, packet), (packet, octets), (octets, other + tail), (packet + tail, octets), (octets, b''), (b'', octets))
+        yield octets + tail, packet + tail                # of a short one the tail is taken for its last octet
+    yield from itertools.product(damaged, repeat=2)
+    for chosen in itertools.combinations(FAULTS, 2):
+        yield from ((faulty(packet, chosen), other), (faulty(packet, chosen), faulty(other, chosen[::-1])))
+    for total in range(form.start - 1, form.start + 3):   # around the least totals
+        octets = packet[:4] + be16(total - 7) + packet[6:total]
+        octets = sealed(octets[:-2]) if total > form.start + 1 else octets
+        yield from ((octets, b''), (b'', octets), (octets, packet), (octets, octets[:-1]))
+
+
+def best_grammar(packet):
+    yield from ('best', 'best ', 'best 0', 'best 0 -', 'best 0 - - -', 'best 0 - - ', 'best 0  -', 'best  0 - -', 'best - - -',
+                'best -1 - -', 'best 256 - -', 'best 007 - -', 'best 0x0 - -', 'best 00000000000000000016 - -',
+                'best 000000000000000000016 - -', 'Best 0 - -', 'best0 - -', 'bests 0 - -', 'in a8 best 0 - -', 'in t7 best 7 - -',
+                'in best 0 - -', 'best 0 in -', 'best 17 - -', 'best 255 0 -', 'best 17 - 0', 'best t7 - -', 'best 7, - -')
+    for octets in ('0', 'ab', '0G', '--', '-0', '00-', '00,00', '00:00', '0x00', packet[:-1], packet.lower(), packet + '-'):
+        yield f'best 7 {octets} {packet}'
+        yield f'best 7 {packet} {octets}'
+
+
 FILES = {'crc': crc_requests, 'header': header_requests, 'write': write_requests, 'limits': limits_requests,
          'read': read_requests, 'strict': strict_requests, 'grammar': grammar_requests, 'pus_a': pus_a_requests,
-         'telemetry': telemetry_requests, 'track': track_requests}
+         'telemetry': telemetry_requests, 'track': track_requests, 'best': best_requests}
 
 
 def main():

@@ -1,5 +1,5 @@
 // The report that answers a ping, with a time of seven octets: written in two ways, and each time judged and taken apart as it was
-// written, and refused as a command.
+// written, and refused as a command; then taken from the better of two captures.
 use ecss::CreatorConfig;
 use ecss::MessageTypeId;
 use ecss::PusError;
@@ -10,6 +10,7 @@ use space_packet::SeqCount;
 use space_packet::SeqCountResult;
 use space_packet::SizeResult;
 use space_packet::SpHeader;
+use stations::Station;
 use tm_header::PusTmSecondaryHeader;
 use tm_read::PusTmRecord;
 use tm_reserved::PusTmCreatorWithReservedSourceData;
@@ -119,6 +120,18 @@ fn judge_as_command(octets: &[u8]) {
     }
 }
 
+// ---- captured by two stations
+
+fn handover<'a>(first: &'a [u8], second: &'a [u8]) {
+    let station = stations::best_station(TIME_LEN, first, second);
+    match station {
+        Station::First => say(b"first station "),
+        Station::Second => say(b"second station "),
+        Station::Neither(_, _) => say(b"neither station "),
+    }
+    say_octets(stations::best(TIME_LEN, first, second));
+}
+
 // ---- written
 
 fn write(time: &[u8], data: &[u8]) {
@@ -136,6 +149,8 @@ fn write(time: &[u8], data: &[u8]) {
         PusTmCreatorResult::Ok(creator) => {
             let written = creator.write_to_slice(time, data, &mut buf);
             say_written(written, &buf);
+            // The first station lost the last octet.
+            handover(text::part(&buf, 0, 23), &buf);
         }
     }
 }

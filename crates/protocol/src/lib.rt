@@ -1,5 +1,6 @@
 // One line in, one line out: requests to the library, and its answers. Fields are separated by one space; octets are
 // upper-case hexadecimal, `-` for none. A line that is no request is answered `bad-request`.
+mod best;
 mod checksum;
 mod fields;
 mod header;
@@ -38,6 +39,9 @@ fn reply(line: &[u8], a: &mut [u8], b: &mut [u8]) {
     }
     if check::same(text::piece(line, 32, 0), b"track") {
         return track::reply(line, a);
+    }
+    if check::same(text::piece(line, 32, 0), b"best") {
+        return best::reply(line, a, b);
     }
     reply_to(Form::Tc(TcForm::PUS_C), kind(line), line, a, b)
 }
