@@ -273,7 +273,7 @@ def sp_write(buffer, sp):
 
 
 def new_builder(form):
-    return Sp(0, 1, 1, 0, 3, 0, 0), Sec(form.version, 15, 0, 0, 0)
+    return Sp(0, 1, 1, 0, 3, 0, 0), Sec(form.version, 8 + 1, 0, 0, 0)     # acceptance and completion
 
 
 def build(setters, data, form):

@@ -51,6 +51,11 @@ def with_field(fields, at, value):
     return [*fields[:at], value, *fields[at + 1:]]
 
 
+def with_four(setters):
+    """A builder's setters, with all four acknowledgements named."""
+    return 'ack=15' if setters == '-' else f'{setters};ack=15'
+
+
 def edges(top):
     return sorted({0, 1, top})
 
@@ -100,17 +105,21 @@ def write_requests(rng):
         yield f'create 0,0,0,291,3,5,0 {P5_SEC} 1 1 - - {buffer}'
         yield f'create 0,0,0,291,3,5,0 {P5_SEC} 1 0 - - {buffer}'
         yield f'create {P5_SP} {P5_SEC} 0 1 - - {buffer}'
-        yield f'build pid=1,1,291;psc=3,5;mtid=17,1 - {buffer}'
+        yield f'build pid=1,1,291;psc=3,5;mtid=17,1;ack=15 - {buffer}'
         yield f'build apid=291;scount=5;service=17;subtype=1;ack=15;source=0;cksum=1 - {buffer}'
         yield from (f'reserve {P5_SP} {P5_SEC} 0 {has} - {finish} {buffer}' for has in '01' for finish in 'fnc')
     yield from (f'simple {apid} {service} 1' for apid in (0, 1, 291, 2047, 2048, 65535) for service in (0, 17, 255))
-    # Builder: the defaults, with and without its data, and each setter.
-    yield from (f'build {setters} 0102 {zeros(16)}' for setters in (
+    # Builder: with and without its data, and each setter, with all four acknowledgements where none are named.
+    yield from (f'build {setters if "ack=" in setters else with_four(setters)} 0102 {zeros(16)}' for setters in (
         '-', 'data=1', 'data=1;data=1', 'cksum=0', 'cksum=0;data=1', 'pid=0,0,2047', 'pid=1,0,1', 'psc=0,16383',
         'psc=1,0', 'scount=16383', 'mtid=255,255', 'mtid=1,2;service=3', 'mtid=1,2;subtype=3', 'service=255', 'subtype=255',
         'source=65535', 'ack=0', 'ack=9', 'apid=2047', 'apid=1;apid=2', 'cksum=0;cksum=1', 'psc=2,7;scount=8',
         'scount=8;psc=2,7', 'pid=0,0,7;apid=8', 'apid=8;pid=0,0,7', 'apid=2048', 'pid=1,1,2048', 'scount=16384',
         'psc=3,16384', 'ack=16', 'ack=16;apid=2048', 'apid=2048;ack=16', 'apid=2048;apid=1'))
+    # Its own default: acceptance and completion. A refused setter changes nothing of it.
+    yield from (f'build {setters} 0102 {zeros(16)}' for setters in (
+        '-', 'data=1', 'cksum=0', 'pid=0,0,2047', 'psc=1,0', 'mtid=255,255', 'source=65535', 'apid=2048', 'ack=15;ack=9',
+        'apid=291;scount=5;mtid=17,1', 'apid=291;scount=5;mtid=17,1;ack=8', 'apid=291;scount=5;mtid=17,1;ack=1'))
     # Each field of both headers at its edges, with the length set and as it stands.
     for at, top in enumerate(SP_WIDTHS):
         for value, set_length in itertools.product(edges(top), '01'):
@@ -412,9 +421,9 @@ def a_writings(rng, form):
                   *(f'source={source};source=0' for source in over[:1])):
         yield f'create 0,0,0,1,3,2,77 1,9,3,4,0 1 1 0A0B {edits} {zeros(total)}'
     # Builder: its defaults, no room, and each source by its setter.
-    yield f'build - 0A0B {zeros(total)}'
+    yield from (f'build {setters} 0A0B {zeros(total)}' for setters in ('ack=15', '-'))
     yield f'build cksum=0;ack=9;data=1 0A0B {zeros(total - 3)}'
-    yield from (f'build apid=291;scount=5;mtid=17,1;source={source};data=1 0A0B {zeros(total)}' for source in within + over)
+    yield from (f'build apid=291;scount=5;mtid=17,1;source={source};data=1;ack=15 0A0B {zeros(total)}' for source in within + over)
     # The largest packet and one octet more; without a buffer the answer is short.
     for length in 65542, 65543:
         data = (bytes(range(256)) * 256)[:length - form.start - 2]

@@ -9,6 +9,7 @@ use space_packet::SeqCount;
 use space_packet::SeqCountResult;
 use space_packet::SizeResult;
 use space_packet::SpHeader;
+use tc_header::AckFlags;
 use tc_header::PusTcSecondaryHeader;
 use tc_header::TcForm;
 use tc_read::PusTcRecord;
@@ -77,7 +78,8 @@ fn by_builder() -> PusTcCreatorResult {
     let typed = PusTcBuilder::new().with_message_type_id(MessageTypeId::new(17, 1));
     let named = typed.with_apid(h.apid());
     let counted = named.builder.with_sequence_count(h.seq_count());
-    counted.builder.build(&none)
+    let asking = counted.builder.with_ack_flags(AckFlags::ALL);
+    asking.builder.build(&none)
 }
 
 // ---- written and judged

@@ -13,7 +13,13 @@ use Rattle.ecss.specs.declared.Crc16.the-variants.{Some, None}
 use Rattle.space_packet.specs.declared.PacketType.the-variants.{Tc}
 use Rattle.space_packet.specs.declared.SequenceFlags.the-variants.{Unsegmented}
 use Rattle.space_packet.specs.declared.SpacePacketHeader.{SpacePacketHeader}
-use Rattle.tc_header.specs.Form.{formA}
+use Rattle.ecss.specs.Version.{messageType}
+use Rattle.tc_header.specs.Form.{formA, formC}
+use Rattle.tc_header.specs.Header.{ackOf, secFrom}
+use Rattle.tc_write.specs.Creator.{creatorIn}
+use Rattle.tc_write.specs.Builder.{builderOf}
+use Rattle.tc_write.specs.declared.PusTcBuilder.{PusTcBuilder}
+use Rattle.tc_write.specs.declared.PusTcCreator.{PusTcCreator}
 use Rattle.tc_strict.specs.Verdict.{strictIn, strictOf}
 
 -- a ping command's octets before the checksum, with the length field n: 19 23 C0 05 00 n 2F 11 01 00 00
@@ -41,6 +47,13 @@ recordFor apid crc = record {
 
 abbrev pub pingRecord : PusTcRecord
 pingRecord = recordFor 291 0x616D
+
+-- what the builder makes it of, and as it builds it
+abbrev pub pingBy : ℕ → PusTcCreator
+pingBy n = creatorIn formC (headerFor 291 n) (secFrom (messageType 17 1) (ackOf 15) 0 PusC) true
+
+abbrev pub pingBuilder : PusTcBuilder
+pingBuilder = builderOf (pingBy 0)
 
 abbrev pub pingBare : PusTcRecord
 pingBare = record {

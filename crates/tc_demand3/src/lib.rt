@@ -4,12 +4,13 @@
 // form, and have octets judged. They are there for their contracts, and nothing calls them.
 ghost use mathlib.Core.Path.{_≡_};
 ghost use mathlib.Core.Bool.{true};
+ghost use mathlib.Core.List.{[], _∷_, _++_};
 ghost use lib.ListN.{length};
 ghost use Rattle.space_packet.specs.Wrote.{Wrote};
 ghost use Rattle.ecss.specs.Kind.{Rules};
 ghost use Rattle.ecss_write.specs.Writer.{packetBy, Handed};
 ghost use Rattle.reserve.specs.Reserve.{finishIn, finished};
-ghost use Rattle.space_packet.specs.Answer.{gives};
+ghost use Rattle.space_packet.specs.Answer.{gives, inBuffer};
 ghost use Rattle.exactness.specs.Demand3.{RefusesChanged, Exact, Fits, madeOf};
 ghost use Rattle.tc_header.specs.Form.{formCheck};
 ghost use Rattle.tc_header.specs.Header.{tc};
@@ -17,9 +18,14 @@ ghost use Rattle.tc_write.specs.Command.{commandIn};
 ghost use Rattle.tc_write.specs.Creator.{PacketWrote};
 ghost use Rattle.tc_read.specs.Read.{startIn};
 ghost use Rattle.tc_strict.specs.Verdict.{verdictAnswer};
+ghost use Rattle.tc_demand3.specs.Cases.{ping, pingBuilder};
 ghost use Rattle.tc_demand3.specs.Rules.{reportFor, Accepts};
+use ecss::MessageTypeId;
+use space_packet::Apid;
+use space_packet::SeqCount;
 use space_packet::SizeResult;
 use space_packet::SpHeader;
+use tc_header::AckFlags;
 use tc_header::PusTcSecondaryHeader;
 use tc_header::TcForm;
 use tc_reserved::PusTcCreatorWithReservedAppData;
@@ -77,6 +83,30 @@ fn built(builder: PusTcBuilder, app_data: &[u8], buf: &mut [u8], table: bool) ->
     match made {
         PusTcCreatorResult::Err(e) => Verdict::Refused(e),
         PusTcCreatorResult::Ok(creator) => written(creator, app_data, buf, table),
+    }
+}
+
+// ---- a ping command by the builder, with all four acknowledgements named: APID 291, count 5
+
+fn ping_builder(apid: Apid, count: SeqCount) -> PusTcBuilder
+    ensures { λ r. ⌜ (apid ≡ record { 0 = 291 } → count ≡ record { 0 = 5 } → r ≡ pingBuilder) ⌝ }
+{
+    let typed = PusTcBuilder::new().with_message_type_id(MessageTypeId::new(17, 1));
+    let named = typed.with_apid(apid);
+    let counted = named.builder.with_sequence_count(count);
+    let asking = counted.builder.with_ack_flags(AckFlags::ALL);
+    asking.builder
+}
+
+fn ping(apid: Apid, count: SeqCount, buf: &mut [u8]) -> SizeResult
+    ensures { λ r. ⌜ (apid ≡ record { 0 = 291 } → count ≡ record { 0 = 5 }
+        → Wrote (inBuffer (length (now (buf .entry))) 13) (ping 6 ++ (0x61 ∷ 0x6D ∷ [])) (now (buf .entry)) r (now (buf .exit))) ⌝ }
+{
+    let none = [0u8; 0];
+    let made = ping_builder(apid, count).build(&none);
+    match made {
+        PusTcCreatorResult::Err(e) => SizeResult::Err(e),
+        PusTcCreatorResult::Ok(creator) => creator.write_to_slice(&none, buf),
     }
 }
 

@@ -2,3 +2,4 @@ pub mod Command
 pub mod Agree
 pub mod Same
 pub mod Determined
+pub mod Named

@@ -14,7 +14,7 @@ ghost use Rattle.ecss.specs.declared.PusVersion.the-variants.{PusC};
 ghost use Rattle.ecss_write.specs.Write.{machineTotal, crcAnswer, checksumAnswer, asksAnswer, keptBy};
 ghost use Rattle.ecss_write.specs.Writer.{askedOf, PutWrote};
 ghost use Rattle.tc_header.specs.Form.{formCheck, sourceLen, sourceCheck};
-ghost use Rattle.tc_header.specs.Header.{ackCheck, ackOf, secFrom, fieldsCheck, tc};
+ghost use Rattle.tc_header.specs.Header.{ackCheck, ackOf, withFlag, secFrom, fieldsCheck, tc};
 ghost use Rattle.tc_write.specs.Command.{commandIn};
 ghost use Rattle.tc_write.specs.Creator.{creatorIn, newIn, newOf, creatorAnswer, creatorKept, withHeader, withSec, updated, ownChecksum, checksumOf, PacketWrote, ContentWrote, sameCreator};
 ghost use Rattle.tc_write.specs.Builder.{builderOf, builderIn, defaultBuilder, builderAnswer, builderKept};
@@ -60,14 +60,14 @@ pub fn asks(form: TcForm, sec_header: PusTcSecondaryHeader) -> Asks
     }
 }
 
-// All four acknowledgements, source 0, and the form's version.
-fn simple(form: TcForm, message_type_id: MessageTypeId) -> PusTcSecondaryHeader
-    ensures { λ r. ⌜ r ≡ secFrom «message_type_id» (ackOf 15) 0 (form .version) ⌝ }
+// Source 0, and the form's version.
+fn simple(form: TcForm, message_type_id: MessageTypeId, ack_flags: AckFlags) -> PusTcSecondaryHeader
+    ensures { λ r. ⌜ r ≡ secFrom «message_type_id» «ack_flags» 0 (form .version) ⌝ }
 {
     PusTcSecondaryHeader {
         message_type_id,
         source_id: 0,
-        ack_flags: ACK_ALL,
+        ack_flags,
         version: form.version(),
     }
 }
@@ -177,7 +177,7 @@ impl PusTcCreator {
         PusTcCreator::new_in(
             form,
             sph,
-            simple(form, message_type_id),
+            simple(form, message_type_id, ACK_ALL),
             app_data,
             packet_config,
         )
@@ -645,7 +645,16 @@ fn builder_set(set: PusTcCreatorSet) -> PusTcBuilderSet
     }
 }
 
+// Of the four flags these two, the others clear.
+fn asking_for(acceptance: bool, completion: bool) -> AckFlags
+    ensures { λ r. ⌜ r ≡ withFlag 1 (withFlag 8 (ackOf 0) acceptance) completion ⌝ }
+{
+    let none = AckFlags::default();
+    none.with_acceptance(acceptance).with_completion(completion)
+}
+
 impl PusTcBuilder {
+    // Acceptance and completion are asked for, where the Rust asks for all four.
     pub fn new() -> PusTcBuilder
         ensures { λ r. ⌜ r ≡ defaultBuilder ⌝ }
     {
@@ -663,6 +672,7 @@ impl PusTcBuilder {
         PusTcBuilderResult::Ok(PusTcBuilder::defaults(form))
     }
 
+    // All four reports of each command would flood a downlink.
     fn defaults(form: TcForm) -> PusTcBuilder
         ensures { λ r. ⌜ r ≡ builderIn form ⌝ }
     {
@@ -670,7 +680,7 @@ impl PusTcBuilder {
         PusTcBuilder(PusTcCreator {
             form,
             sp_header: packet::as_type(h, PacketType::Tc),
-            sec_header: simple(form, MessageTypeId::new(0, 0)),
+            sec_header: simple(form, MessageTypeId::new(0, 0), asking_for(true, true)),
             has_checksum: true,
         })
     }

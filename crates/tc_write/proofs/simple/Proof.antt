@@ -1,6 +1,6 @@
 -- `tc_write::simple` meets its contract: the fields as they are handed in, and the version that the form answers.
 use mathlib.Core.Path.{ap}
-use Rattle.tc_header.specs.Header.{ackOf, secFrom}
+use Rattle.tc_header.specs.Header.{secFrom}
 use borrow.Author.Needs.{needs}
 use Rattle.tc_write.proofs.simple.Statement.{statement}
 use Rattle.tc_write.proofs.simple.Tie as tie
@@ -9,7 +9,7 @@ version-requires : tie.Need-version-requires
 version-requires c κs = search needs
 
 returns : tie.Need-returns
-returns c = ap (secFrom (c .before .args .message-type-id) (ackOf 15) 0) (c .version .ensures)
+returns c = ap (secFrom (c .before .args .message-type-id) (c .before .args .ack-flags) 0) (c .version .ensures)
 
 pub simple-spec : {M : Type 1} → statement M
 simple-spec = tie.close (tie.spec version-requires returns)

@@ -1,8 +1,9 @@
--- `PusTcBuilder::defaults` meets its contract: the default header as a telecommand's, and the simple header of message type 0, 0.
+-- `PusTcBuilder::defaults` meets its contract: the default header as a telecommand's, and the simple header of message type 0, 0 with
+-- the default acknowledgements.
 use mathlib.Core.Path.{_∙_, ap, ap₂}
 use Rattle.space_packet.specs.declared.PacketType.the-variants.{Tc}
 use Rattle.ecss_write.specs.Write.{asType}
-use Rattle.tc_header.specs.Header.{ackOf, secFrom}
+use Rattle.tc_header.specs.Header.{secFrom}
 use Rattle.tc_write.specs.Creator.{creatorIn}
 use Rattle.tc_write.specs.Builder.{builderOf, defaultBuilder}
 use borrow.Author.Needs.{needs}
@@ -18,16 +19,20 @@ as-type-requires c κs = search needs
 new-requires : tie.Need-new-requires
 new-requires c κs = search needs
 
+asking-for-requires : tie.Need-asking-for-requires
+asking-for-requires c κs = search needs
+
 simple-requires : tie.Need-simple-requires
 simple-requires c κs = search needs
 
 returns : tie.Need-returns
 returns c =
-    let f = c .before .before .before .before .args .form in
+    let f = c .before .before .before .before .before .args .form in
     ap₂ (λ h x. builderOf (creatorIn f h x (defaultBuilder .0 .«has_checksum»)))
-    (c .before .before .as-type .ensures ∙ ap (asType Tc) (c .before .before .before .default .ensures))
-    (c .simple .ensures ∙ ap (λ m. secFrom m (ackOf 15) 0 (f .version)) (c .before .new .ensures))
+    (c .before .before .before .as-type .ensures ∙ ap (asType Tc) (c .before .before .before .before .default .ensures))
+    (c .simple .ensures ∙ ap₂ (λ m a. secFrom m a 0 (f .version)) (c .before .before .new .ensures) (c .before .asking-for .ensures))
 
 pub defaults-spec : {M : Type 1} → statement M
 defaults-spec =
-    tie.close (tie.spec default-requires as-type-requires new-requires simple-requires returns)
+    tie.close
+    (tie.spec default-requires as-type-requires new-requires asking-for-requires simple-requires returns)
