@@ -5,7 +5,7 @@ It speaks the protocol of docs/PROTOCOL.md, one request a line in and one answer
 layout, the table of refusals and the orders of refusals, without a look at the port or at the crate. The checksum is
 Python's own, binascii.crc_hqx. Unlike the crate it also has an answer outside the domain of equality (a field over its
 width, a version other than C, a total above 65,542 octets), to `strict`, `split`, `track` and `best`, and to requests in
-PUS A and of telemetry. What is open it works out from all calls so far, each time anew.
+PUS A, with spare octets and of telemetry. What is open it works out from all calls so far, each time anew.
 
     tools/model.py <requests >answers
 """
@@ -96,10 +96,11 @@ class Sp:
 
 
 class Sec:
-    """The secondary header of a telecommand. Its last field, of as many octets as the form says, is the source ID."""
+    """The secondary header of a telecommand. Its last field, of as many octets as the form says, is the source ID; spare
+    octets may end it."""
 
     NAMES = ('version', 'ack', 'service', 'subtype', 'source')
-    LAST_AT, TYPE, OTHER_TYPE, NO_FORM = 9, 1, 10, 32
+    LAST_AT, TYPE, OTHER_TYPE = 9, 1, 10
 
     def __init__(self, *fields):
         self.__dict__.update(zip(self.NAMES, fields))
@@ -114,7 +115,7 @@ class Sec:
 
     def octets(self, form):
         first = bytes([self.version << 4 | self.ack, self.service, self.subtype])
-        return first + self.source.to_bytes(form.last_octets, 'big')
+        return first + self.source.to_bytes(form.last_octets, 'big') + bytes(form.spare)
 
     def check(self, form):
         """7. Place 5 can be over its width in PUS A alone."""
@@ -123,15 +124,16 @@ class Sec:
 
     @classmethod
     def read(cls, octets, form):
-        """The fields from octet 6 of a packet; the version is always reported as the form's. No source octets are 0."""
-        return cls(form.version, octets[6] & 15, octets[7], octets[8], int.from_bytes(octets[9:form.start], 'big'))
+        """The fields from octet 6 of a packet; the version is always reported as the form's. No source octets are 0, and
+        spare octets say nothing."""
+        return cls(form.version, octets[6] & 15, octets[7], octets[8], int.from_bytes(octets[9:form.spare_at], 'big'))
 
 
 class Tm:
     """The secondary header of telemetry. Its last field, of as many octets as the form says, is the time."""
 
     NAMES = ('version', 'status', 'service', 'subtype', 'counter', 'dest')
-    LAST_AT, TYPE, OTHER_TYPE, NO_FORM = 13, 0, 13, 14
+    LAST_AT, TYPE, OTHER_TYPE = 13, 0, 13
 
     __init__, __str__ = Sp.__init__, Sp.__str__
 
@@ -162,42 +164,51 @@ class Tm:
 
 class Form:
     """A form of packet: the record of its secondary header, its PUS version, and how many octets the record's last field
-    has, which the mission fixes. The data start after these."""
+    has and how many are spare after it, which the mission fixes. The data start after these. `bad` is the refusal of a
+    number that makes no form."""
 
-    def __init__(self, record, version, last_octets, good=True):
-        self.record, self.version, self.last_octets, self.good = record, version, last_octets, good
-        self.start = record.LAST_AT + last_octets
+    def __init__(self, record, version, last_octets, spare, good, bad):
+        self.record, self.version, self.last_octets, self.spare = record, version, last_octets, spare
+        self.good, self.bad = good, bad
+        self.spare_at = record.LAST_AT + last_octets
+        self.start = self.spare_at + spare
         self.tops = TOPS | {5: 256**last_octets - 1}
 
     def check(self, sec=None):
-        """32: SourceWidth, or 14: TimeLength, which a time of another length than the form's is too. Before all others."""
-        refuse_if(not self.good or sec and not sec.fits(self), self.record.NO_FORM)
+        """32: SourceWidth, 19: SpareLength, or 14: TimeLength, which a time of another length than the form's is too. Before
+        all others."""
+        refuse_if(not self.good or sec and not sec.fits(self), self.bad)
 
 
-PUS_C = Form(Sec, 2, 2)
+def pus_c(spare):
+    """The form with this many spare octets."""
+    return Form(Sec, 2, 2, spare, spare <= 4, 19)
+
+
+PUS_C = pus_c(0)
 
 
 def pus_a(width):
     """The form with a source ID of this many bits."""
-    return Form(Sec, 1, width // 8, width in (0, 8, 16))
+    return Form(Sec, 1, width // 8, 0, width in (0, 8, 16), 32)
 
 
 def telemetry(length):
     """The form with a time field of this many octets."""
-    return Form(Tm, 2, length, length <= 16)
+    return Form(Tm, 2, length, 0, length <= 16, 14)
 
 
 # Writing.
 
 def check_fields(form, sp, sec):
-    """32 or 14, then 7 in the order of the places."""
+    """32, 19 or 14, then 7 in the order of the places."""
     form.check(sec)
     sp.check()
     sec.check(form)
 
 
 class Creator:
-    """A packet to write. Construction: 32 or 14, 7, 6."""
+    """A packet to write. Construction: 32, 19 or 14, 7, 6."""
 
     def __init__(self, sp, sec, set_length, has_checksum, data, form=PUS_C):
         self.sp, self.sec, self.has_checksum, self.data, self.form = sp, sec, has_checksum, data, form
@@ -277,7 +288,7 @@ def new_builder(form):
 
 
 def build(setters, data, form):
-    """The builder: 32; each setter refuses what is handed in, 7; then construction, with the length set."""
+    """The builder: 32 or 19; each setter refuses what is handed in, 7; then construction, with the length set."""
     form.check()
     sp, sec = new_builder(form)
     has_checksum, used = 1, b''
@@ -303,7 +314,7 @@ def build(setters, data, form):
 
 
 def reserve(sp, sec, data_len, has_checksum, fill, finish, buffer, form):
-    """14, 7, 6 for the machine size, 1, 6 for the packet limit, 3; then the data part filled, then the finish."""
+    """19 or 14, 7, 6 for the machine size, 1, 6 for the packet limit, 3; then the data part filled, then the finish."""
     start = form.start
     total = start + data_len + 2 * has_checksum
     try:
@@ -366,32 +377,34 @@ WAYS = {'new': 'compared', 'nt': 'compared', 'noverify': 'taken', 'nocrc': 'none
 
 
 def strict(octets, form=PUS_C):
-    """All reader checks with the checksum, then 9, 10 or 13, 11, 3, 12. The whole nibble counts: PUS A refuses 9 too."""
+    """All reader checks with the checksum, then 9, 10 or 13, 11, 3, 12, 20. The whole nibble counts: PUS A refuses 9 too."""
     reader = Reader(octets, 'compared', form)
     refuse_if(reader.sp.pvn != 0, 9, reader.sp.pvn)
     refuse_if(reader.sp.type != form.record.TYPE, form.record.OTHER_TYPE)
     refuse_if(reader.sp.shf == 0, 11)
     refuse_if(octets[6] >> 4 != form.version, 3, octets[6] >> 4)
     refuse_if(reader.sp.apid == 0b11111111111, 12)        # idle packets: no commands, no reports
+    refuse_if(any(octets[form.spare_at:form.start]), 20)
     return reader
 
 
-def verdict(octets):
+def verdict(octets, form):
     """`accept`, or the number of the refusal."""
     try:
-        strict(octets)
+        strict(octets, form)
         return 'accept'
     except Refused as refusal:
         return refusal.args[0]
 
 
-def split(octets):
+def split(octets, form=PUS_C):
+    form.check()
     at, words = 0, []
     while len(octets) - at >= 6:
         total = Sp.read(octets[at:at + 6]).dlen + 7
         if len(octets) - at < total:
             break
-        words.append(f'{at}:{total}:{verdict(octets[at:at + total])}')
+        words.append(f'{at}:{total}:{verdict(octets[at:at + total], form)}')
         at += total
     if at < len(octets):
         words.append(f'{at}:{len(octets) - at}:tail')
@@ -635,17 +648,18 @@ def timed(do):
     return lambda sp, tm, time, *fields: do(sp, tm.at(time), *fields)
 
 
-def do_cmprc(mode, octets, sp, sec, set_length, has_checksum, data, edits):
-    reader = Reader(octets, WAYS[mode])
-    creator = edited(sp, sec, set_length, has_checksum, data, edits)
+def do_cmprc(mode, octets, sp, sec, set_length, has_checksum, data, edits, form=PUS_C):
+    reader = Reader(octets, WAYS[mode], form)
+    creator = edited(sp, sec, set_length, has_checksum, data, edits, form)
     return [int(reader.equals_creator(creator))] * 2
 
 
-def do_cmprr(mode, octets, other_mode, other_octets):
+def do_cmprr(mode, octets, other_mode, other_octets, form=PUS_C):
+    form.check()
     reads, words = [], []
     for way, packet in (mode, octets), (other_mode, other_octets):
         try:
-            reads.append(Reader(packet, WAYS[way]))
+            reads.append(Reader(packet, WAYS[way], form))
             words.append('ok')
         except Refused as refusal:
             words.append(refusal)
@@ -695,13 +709,15 @@ REQUESTS = {
     'best': (best, [U8, DATA, DATA]),
 }
 IN_PUS_A = {kind: REQUESTS[kind] for kind in ('read', 'create', 'build', 'strict')}
+IN_PUS_C = IN_PUS_A | {kind: REQUESTS[kind] for kind in ('reserve', 'split', 'cmprc', 'cmprr')}
 IN_TELEMETRY = {
     'read': REQUESTS['read'],
     'create': (timed(do_create), [SP, TM, DATA, FLAG, FLAG, DATA, TM_EDITS, DATA]),
     'reserve': (timed(do_reserve), [SP, TM, DATA, U64, FLAG, DATA, FIN, DATA]),
     'strict': REQUESTS['strict'],
 }
-FORMS = {'a': (pus_a, IN_PUS_A), 't': (telemetry, IN_TELEMETRY)}      # the form of a number, and what may come after it
+# the form of a number, and what may come after it
+FORMS = {'a': (pus_a, IN_PUS_A), 'c': (pus_c, IN_PUS_C), 't': (telemetry, IN_TELEMETRY)}
 
 
 def FORM(word):

@@ -17,6 +17,8 @@ out at every run.
              reports that are none, random histories, and the grammar of the calls
     best     two captures of a report: each fault in one, in the other and in both, octets after the packet, empty captures,
              two packets that both pass, time lengths from 0 to 255, and the grammar of the fields
+    spare    PUS C at each spare length: read, judged, created, built, reserved, compared and split, with each spare octet wrong,
+             the largest packets, the same octets at every length, other lengths, and the grammar
 
     tools/vectors.py FOLDER
 """
@@ -27,7 +29,7 @@ import random
 import sys
 
 import model
-from model import LIMIT, MACHINE, PUS_C, Creator, Sec, Sp, Tm, be16, crc, pus_a, telemetry, text
+from model import LIMIT, MACHINE, PUS_C, Creator, Sec, Sp, Tm, be16, crc, pus_a, pus_c, telemetry, text
 
 P5 = '1923C00500062F11010000616D'
 P6 = P5[:-2] + '6C'
@@ -180,8 +182,8 @@ def packet_of(sp, sec, data, form):
     return creator.write(bytes(creator.total()), True)[1]
 
 
-def tc(data=b'', sp=(0, 1, 1, 291, 3, 5, 0), sec=(2, 15, 17, 1, 0)):
-    return packet_of(sp, Sec(*sec), data, PUS_C)
+def tc(data=b'', sp=(0, 1, 1, 291, 3, 5, 0), sec=(2, 15, 17, 1, 0), form=PUS_C):
+    return packet_of(sp, Sec(*sec), data, form)
 
 
 def sealed(octets):
@@ -825,9 +827,143 @@ def best_grammar(packet):
         yield f'best 7 {packet} {octets}'
 
 
+def spare_requests(rng):
+    parts = spare_readings, spare_verdicts, spare_writings, spare_orders, spare_reservations, spare_comparisons, spare_splits
+    for spare in range(5):
+        form = pus_c(spare)
+        yield from (f'in c{spare} {request}' for part in parts for request in part(rng, form))
+    yield from spare_above_4()
+    # A zero is data where there are fewer spare octets, and spare where there are more; another octet is data alone.
+    for data in b'', bytes(1), bytes(2), bytes(4), bytes(5), b'\0\1', b'\1':
+        packet = text(tc(data))
+        yield from (f'in c{spare} {way} {packet}' for spare in range(5) for way in ('strict', 'read new', 'read nocrc'))
+    yield from spare_limits()
+    yield from spare_grammar()
+
+
+def spare_readings(rng, form):
+    for data in b'', rng.randbytes(3):
+        packet = tc(data, form=form)
+        wrong = packet[:-1] + bytes([packet[-1] ^ 1])
+        yield from (f'read {mode} {text(octets)}' for mode in MODES for octets in (packet, packet + b'tail', wrong))
+    for at, octet in itertools.product(range(form.spare_at, form.start), (1, 255)):       # what is spare is read over
+        packet = text(with_octet(tc(b'data', form=form), at, octet))
+        yield from (f'read {mode} {packet}' for mode in MODES)
+    for length, stated in itertools.product(range(-2, 4), range(-2, 4)):                  # around the least totals
+        octets = tc(bytes(8), (0, 1, 1, 291, 3, 5, 0), form=form)
+        octets = octets[:4] + be16(form.start + stated - 7) + octets[6:]
+        yield from (f'read {mode} {text(octets[:form.start + length])}' for mode in ('noverify', 'nocrc'))
+
+
+def spare_verdicts(rng, form):
+    packet = tc(rng.randbytes(2), form=form)
+    for count in 0, 1, 2:
+        for chosen in itertools.combinations(FAULTS, count):
+            yield f'strict {text(faulty(packet, chosen))}'
+            for at in {form.spare_at, form.start - 1} if form.spare else ():              # and a spare octet that is not zero
+                yield f'strict {text(faulty(with_octet(packet, at, 0x80), chosen))}'
+    for at, bit in itertools.product(range(form.spare_at, form.start), range(8)):
+        yield f'strict {text(with_octet(packet, at, 1 << bit))}'
+    for at in form.spare_at - 1, form.start:                                              # before them and behind them
+        yield f'strict {text(with_octet(packet, at, 1))}'
+    yield f'strict {P5}'
+    yield f'strict {text(tc(b"", form=form))}'
+
+
+def spare_writings(rng, form):
+    total = form.start + 4                                # of two octets of data and a checksum
+    for size in total - 1, total, total + 3:              # what the buffer held does not stand in the spare octets
+        for has in 0, 1:
+            yield f'create {P5_SP} {P5_SEC} 1 {has} 0A0B - {text(rng.randbytes(size))}'
+    for edits in ('source=65535', 'dlen=0;upd', 'type=0;shf=0;dlen=9', 'version=1', 'ack=16', 'apid=2047', 'pvn=7;upd'):
+        yield f'create {P5_SP} {P5_SEC} 0 1 0A0B {edits} {text(rng.randbytes(total))}'
+    yield f'build - 0A0B {text(rng.randbytes(total))}'
+    yield f'build apid=291;scount=5;mtid=17,1;ack=15;source=258;data=1 0A0B {text(rng.randbytes(total))}'
+    yield f'build cksum=0;ack=9;data=1 0A0B {text(rng.randbytes(total - 3))}'
+
+
+def spare_orders(_, form):
+    """The faults of a creation and a reservation, alone and with each other."""
+    for chosen in itertools.chain.from_iterable(itertools.combinations(('apid', 'ack', 'version', 'room'), count) for count in (1, 2)):
+        sp = row([0, 1, 1, 2048 if 'apid' in chosen else 291, 3, 5, 0])
+        sec = row([1 if 'version' in chosen else 2, 16 if 'ack' in chosen else 15, 17, 1, 0])
+        buffer = zeros(form.start + 2 - ('room' in chosen))
+        yield f'create {sp} {sec} 1 1 - - {buffer}'
+        yield f'reserve {sp} {sec} 0 1 - f {buffer}'
+
+
+def spare_reservations(rng, form):
+    for size, has, finish in itertools.product((0, 2), (0, 1), 'fnc'):
+        total = form.start + size + 2 * has
+        for room, fill in (total, size), (total + 2, 0), (total - 1, size):
+            yield f'reserve {P5_SP} {P5_SEC} {size} {has} {text(rng.randbytes(fill))} {finish} {text(rng.randbytes(room))}'
+    for size in 65529 - form.spare, 65530 - form.spare, MACHINE - form.start - 2, MACHINE - form.start - 1, MACHINE:
+        yield f'reserve {P5_SP} {P5_SEC} {size} 1 - f {zeros(13)}'
+
+
+def spare_comparisons(rng, form):
+    data = rng.randbytes(3)
+    packet = tc(data, form=form)
+    same = f'{P5_SP} {P5_SEC} 1 1 {text(data)}'
+    for mode in MODES:
+        yield f'cmprc {mode} {text(packet)} {same} -'
+        yield f'cmprc {mode} {text(packet)} {P5_SP} {P5_SEC} 1 0 {text(packet[form.start:])} -'
+        yield f'cmprc {mode} {text(packet[:-1])} {same} -'
+        yield f'cmprr {mode} {text(packet)} {mode} {text(packet + b"tail")}'
+        yield f'cmprr {mode} {text(packet)} nocrc {text(packet[:form.start])}'
+    for at in range(form.spare_at, form.start + 1):       # a spare octet is none of a creator's, but one of the raw octets
+        other = text(with_octet(packet, at, packet[at] ^ 1))
+        yield f'cmprc noverify {other} {same} -'
+        yield f'cmprr new {text(packet)} new {other}'
+    yield f'cmprc new {text(packet)} {same} source=1'
+
+
+def spare_splits(rng, form):
+    packet = tc(rng.randbytes(2), form=form)
+    wrong = [with_octet(packet, at, 1) for at in range(form.spare_at, form.start)]
+    idle = [with_octet(with_octet(one, 0, 0x1F), 1, 0xFF) for one in (packet, *wrong)]    # 12 comes before 20
+    yield f'split {text(b"".join([packet, *wrong, *idle, tc(), packet, packet[:-1]]))}'
+    yield f'split {text(packet[:5])}'
+    yield 'split -'
+
+
+def spare_above_4():
+    """Refused before everything else that is wrong; a reservation tells the buffer too."""
+    wrong = '8,1,1,2048,3,5,6 0,16,17,1,0'
+    for spare in 5, 6, 255:
+        yield from (f'in c{spare} {request}' for request in (
+            f'read new {P6}', 'read nocrc -', 'strict -', f'create {wrong} 1 1 - apid=2048 -', 'build ack=16 - -',
+            f'reserve {wrong} 0 1 - f A0B1', f'cmprc new - {wrong} 1 1 - -', 'cmprr new - nocrc -', f'split {P5}', 'split -'))
+
+
+def spare_limits():
+    """The largest packet and one octet more; without a buffer the answer is short."""
+    data = bytes(range(256)) * 256
+    for spare in range(5):
+        for size in 65529 - spare, 65530 - spare:
+            yield f'in c{spare} create {P5_SP} {P5_SEC} 1 1 {text(data[:size])} - -'
+    yield f'in c3 create {P5_SP} {P5_SEC} 1 1 {text(data[:65526])} - {zeros(LIMIT)}'
+    yield f'in c3 strict {text(tc(data[:65526], form=pus_c(3)))}'
+    yield f'in c4 reserve {P5_SP} 1,15,17,1,0 65526 1 - f {zeros(LIMIT + 1)}'             # 6 stands before 3
+
+
+def spare_grammar():
+    """What follows `in cN`. A bad field stands before a spare length that is none."""
+    yield from ('in c', 'in c ', 'in c3', 'in c3 ', 'in c strict -', 'in c3 strict', 'in c3 strict - -', 'in c3 strict 0',
+                'in c5 strict 0', 'in c5 read crc -', 'in c5 split 0', 'in c3 c3 strict -', 'in c3 in c3 strict -')
+    for form in ('c03', 'c00004', 'c256', 'c-1', 'c+3', 'c3.', 'cc3', 'C3', '3c', 'ac3', 'c00000000000000000003',
+                 'c000000000000000000003'):
+        yield f'in {form} strict {P5}'
+    for other in ('crc 00', 'verify 00 0000', 'sphread -', f'sphwrite {P5_SP} -', 'ack 1', 'simple 1 17 1', 'consts', 'track 0 -'):
+        yield f'in c3 {other}'
+    yield f'in c3 create {TM_SP} {PONG} - 1 1 - - -'
+    yield f'in c5 reserve {P5_SP} {P5_SEC} 0 1 00 f -'
+    yield f'in c3 reserve {P5_SP} {P5_SEC} 0 1 - x -'
+
+
 FILES = {'crc': crc_requests, 'header': header_requests, 'write': write_requests, 'limits': limits_requests,
          'read': read_requests, 'strict': strict_requests, 'grammar': grammar_requests, 'pus_a': pus_a_requests,
-         'telemetry': telemetry_requests, 'track': track_requests, 'best': best_requests}
+         'telemetry': telemetry_requests, 'track': track_requests, 'best': best_requests, 'spare': spare_requests}
 
 
 def main():

@@ -4,14 +4,13 @@ use mathlib.Core.Path.{_≡_, refl, sym, ap, _∙_}
 use mathlib.Core.Bool.{Bool, true, false, not}
 use mathlib.Core.List.{List, [], _∷_}
 use native.Mathlib.Omega.{arith}
-use lib.ListN.{length, take, drop-of-length-le}
+use lib.ListN.{length, take, drop, drop-of-length-le}
 use lib.Seq.{length-take-le}
 use borrow.Author.Tests.{ltb-false, le-ltb, eq-eqb, eqb-true, not-false}
 use Rattle.space_packet.specs.Answer.{Numbers, refusal, gives, refuseIf, _then_}
 use Rattle.space_packet.proofs.Answers.{gives-inj, refuse-no, refuse-gives, then-gives, gives-then, then-of, if-then, Holds, holds-if}
 use Rattle.crc_register.specs.Crc.{crcOf}
 use Rattle.ecss.specs.Frame.{trailer, statedOf, storedOf, computedOf, checksumFits, frameOf, verifies, verified, checkedOf}
-use Rattle.ecss.specs.Kind.{secondaryOf}
 
 -- the octets begin with a frame of n octets
 pub record FrameIs (start : ℕ) (s : List ℕ) (b : Bool) (n : ℕ) : Type 0 where
@@ -85,12 +84,12 @@ checked-frame start s n f =
 pub total-checked : (start : ℕ) (s : List ℕ) (n : ℕ) → FrameIs start s true n → crcOf (take n s) ≡ 0 → checkedOf start s ≡ gives n
 total-checked start s n f z = checked-frame start s n f ∙ refuse-no _ _ _ (ap not (eq-eqb _ 0 z))
 
--- ---- the octets of the secondary header
+-- ---- parts
 
 nothing : (n : ℕ) → take {A = ℕ} n [] ≡ []
 nothing zero = refl
 nothing (suc n) = refl
 
--- fewer octets than a primary header leave none for a secondary one
-pub none-left : (n : ℕ) (s : List ℕ) → length s < 6 → secondaryOf n s ≡ []
-none-left n s h = let e : length s ≤ 6 = omega arith in ap (take n) (drop-of-length-le s e) ∙ nothing n
+-- fewer octets leave none behind them
+pub none-left : (at n : ℕ) (s : List ℕ) → length s < at → take n (drop at s) ≡ []
+none-left at n s h = let e : length s ≤ at = omega arith in ap (take n) (drop-of-length-le s e) ∙ nothing n

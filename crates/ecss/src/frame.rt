@@ -1,6 +1,6 @@
 // The frame of a packet, over the octet at which its data starts: its length checks, its checksum, and the parts handed out.
 ghost use mathlib.Core.Path.{_≡_};
-ghost use lib.ListN.{take};
+ghost use lib.ListN.{take, drop};
 ghost use Rattle.space_packet.specs.Answer.{checkAnswer, sizeAnswer};
 ghost use Rattle.ecss.specs.Frame.{trailer, frameOf, checkedOf, frameAfter, checkedAfter, crcTaken, rawPart, dataPart, sameOctets};
 ghost use Rattle.ecss.specs.Kind.{secondaryOf};
@@ -53,14 +53,21 @@ pub fn front(s: &[u8], n: usize) -> &[u8]
     &s[..n]
 }
 
+// The n octets from `at` on, or as many of them as there are.
+pub fn part_at(s: &[u8], at: usize, n: usize) -> &[u8]
+    ensures { λ r. ⌜ now r ≡ take n (drop at (now (s .entry))) ⌝ }
+{
+    if s.len() < at {
+        return &s[..0];
+    }
+    front(&s[at..], n)
+}
+
 // The octets of a secondary header of `size` octets in a packet; fewer where the packet is shorter.
 pub fn sec_header_part(packet: &[u8], size: usize) -> &[u8]
     ensures { λ r. ⌜ now r ≡ secondaryOf size (now (packet .entry)) ⌝ }
 {
-    if packet.len() < CCSDS_HEADER_LEN {
-        return &packet[..0];
-    }
-    front(&packet[CCSDS_HEADER_LEN..], size)
+    part_at(packet, CCSDS_HEADER_LEN, size)
 }
 
 // All reader checks with checksum.

@@ -51,16 +51,20 @@ fn reply_in(form: &[u8], line: &[u8], a: &mut [u8], b: &mut [u8]) {
         return show::bad();
     };
     let letter = fields::form_letter(form);
+    let asked = kind(line);
+    let size = fields::low8(n);
     match letter {
-        97 => reply_in_a(fields::low8(n), kind(line), line, a, b),
-        116 => reply_to(Form::Tm(fields::low8(n)), tm_kind(line), line, a, b),
+        97 => reply_if(in_a(asked), TcForm::pus_a(size), asked, line, a, b),
+        99 => reply_if(in_c(asked), TcForm::pus_c(size), asked, line, a, b),
+        116 => reply_to(Form::Tm(size), tm_kind(line), line, a, b),
         _ => show::bad(),
     }
 }
 
-fn reply_in_a(width: u8, kind: usize, line: &[u8], a: &mut [u8], b: &mut [u8]) {
-    if takes_form(kind) {
-        return reply_to(Form::Tc(TcForm::pus_a(width)), kind, line, a, b);
+// A request of telecommands, where their edition takes it.
+fn reply_if(taken: bool, form: TcForm, kind: usize, line: &[u8], a: &mut [u8], b: &mut [u8]) {
+    if taken {
+        return reply_to(Form::Tc(form), kind, line, a, b);
     }
     show::bad()
 }
@@ -75,8 +79,13 @@ fn behind(s: &[u8]) -> &[u8] {
 }
 
 // strict, read, create, build
-fn takes_form(kind: usize) -> bool {
+fn in_a(kind: usize) -> bool {
     kind == 2 || kind == 6 || kind == 9 || kind == 10
+}
+
+// Those, and split, cmprr, reserve, cmprc.
+fn in_c(kind: usize) -> bool {
+    in_a(kind) || kind == 3 || kind == 7 || kind == 11 || kind == 12
 }
 
 // The place of a request's first word among these, or how many there are.
@@ -176,11 +185,11 @@ fn reads(form: TcForm, kind: usize, v: [u64; 20], data: &[u8], other: &[u8]) {
         0 => checksum::checksum(data),
         1 => header::read(data),
         2 => verdict::judge(form, data),
-        3 => verdict::split(data),
+        3 => verdict::split(form, data),
         4 => checksum::verify(v, data),
         5 => header::ack(v),
         6 => read::read(form, v, data),
-        _ => read::compare(v, data, other),
+        _ => read::compare(form, v, data, other),
     }
 }
 
@@ -189,8 +198,8 @@ fn writes(form: TcForm, kind: usize, line: &[u8], v: [u64; 20], data: &[u8], buf
         8 => header::write(v, buf),
         9 => write::create(form, line, v, data, buf),
         10 => write::build(form, line, v, data, buf),
-        11 => write::reserve(v, data, buf),
-        12 => write::compare(line, v, data, buf),
+        11 => write::reserve(form, v, data, buf),
+        12 => write::compare(form, line, v, data, buf),
         13 => write::simple(v),
         14 => header::consts(),
         _ => show::bad(),

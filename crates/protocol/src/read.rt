@@ -1,13 +1,14 @@
 // The requests that read telecommands.
 use crate::fields;
 use crate::show;
+use space_packet::CheckResult;
 use tc_header::TcForm;
 use tc_read::Crc16;
 use tc_read::PusTcRecord;
 use tc_read::PusTcRecordResult;
 
-// The way of reading by its place among the words of MODE.
-pub(crate) fn read_as(mode: u64, s: &[u8]) -> PusTcRecordResult {
+// The way of reading PUS C by its place among the words of MODE.
+fn read_as(mode: u64, s: &[u8]) -> PusTcRecordResult {
     match mode {
         0 => PusTcRecord::new(s),
         1 => PusTcRecord::new_checksum_no_table(s),
@@ -16,8 +17,8 @@ pub(crate) fn read_as(mode: u64, s: &[u8]) -> PusTcRecordResult {
     }
 }
 
-// PUS A has one call for both forms of the checksum.
-fn read_in(form: TcForm, mode: u64, s: &[u8]) -> PusTcRecordResult {
+// The other forms have one call for both forms of the checksum.
+pub(crate) fn read_in(form: TcForm, mode: u64, s: &[u8]) -> PusTcRecordResult {
     if form.eq(TcForm::PUS_C) {
         return read_as(mode, s);
     }
@@ -68,24 +69,28 @@ pub(crate) fn stored(crc16: Crc16) {
     }
 }
 
-// cmprr MODE DATA MODE DATA
-pub(crate) fn compare(v: [u64; 20], s: &[u8], t: &[u8]) {
+// cmprr MODE DATA MODE DATA; a form that is refused is the whole answer
+pub(crate) fn compare(form: TcForm, v: [u64; 20], s: &[u8], t: &[u8]) {
+    let c = form.check();
+    if let CheckResult::Err(e) = c {
+        return show::refusal(e);
+    }
     let first = v[fields::WORD];
     let second = v[fields::SECOND];
-    let x = read_as(first, s);
-    let y = read_as(second, t);
+    let x = read_in(form, first, s);
+    let y = read_in(form, second, t);
     if is_read(x) && is_read(y) {
-        return compared(s, first != 3, t, second != 3);
+        return compared(form, s, first != 3, t, second != 3);
     }
     outcome(x);
     show::say(b" ");
     outcome(y);
 }
 
-fn compared(s: &[u8], has: bool, t: &[u8], other_has: bool) {
+fn compared(form: TcForm, s: &[u8], has: bool, t: &[u8], other_has: bool) {
     let v = [
-        tc_compare::eq_reader(s, has, t, other_has) as u64,
-        tc_compare::eq_reader(t, other_has, s, has) as u64,
+        tc_compare::eq_reader_in(form, s, has, t, other_has) as u64,
+        tc_compare::eq_reader_in(form, t, other_has, s, has) as u64,
     ];
     show::list(b"", 32, &v, 2);
 }

@@ -1,6 +1,7 @@
 // The requests on the strict verdict and the splitter, which the crate does not have.
 use crate::read;
 use crate::show;
+use space_packet::CheckResult;
 use tc_header::TcForm;
 use tc_strict::Verdict;
 use tc_strict::split::Cursor;
@@ -15,26 +16,30 @@ pub(crate) fn judge(form: TcForm, s: &[u8]) {
     }
 }
 
-// split DATA
-pub(crate) fn split(s: &[u8]) {
-    pieces(s);
+// split DATA; a form that is refused is the whole answer
+pub(crate) fn split(form: TcForm, s: &[u8]) {
+    let c = form.check();
+    if let CheckResult::Err(e) = c {
+        return show::refusal(e);
+    }
+    pieces(form, s);
     show::number(b"end:", s.len() as u64);
 }
 
 // A piece has an octet or more, so the turns suffice.
-fn pieces(s: &[u8]) {
+fn pieces(form: TcForm, s: &[u8]) {
     let mut from = 0;
     let mut turns = s.len();
     while turns > 0 && from < s.len() {
-        from = piece(s, from);
+        from = piece(form, s, from);
         turns -= 1;
     }
 }
 
 // Shows the piece at `from`, and answers where the next begins.
-fn piece(s: &[u8], from: usize) -> usize {
+fn piece(form: TcForm, s: &[u8], from: usize) -> usize {
     let here = Cursor { at: from };
-    let step = here.step(s);
+    let step = here.step_in(form, s);
     match step {
         Step::Packet {
             at,

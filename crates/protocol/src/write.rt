@@ -344,12 +344,12 @@ fn set_freely(b: PusTcBuilder, name: usize, v: [u64; 4]) -> PusTcBuilder {
 // ---- reserve
 
 // reserve SP SEC data_len has FILL FIN BUF
-pub(crate) fn reserve(v: [u64; 20], fill: &[u8], buf: &mut [u8]) {
+pub(crate) fn reserve(form: TcForm, v: [u64; 20], fill: &[u8], buf: &mut [u8]) {
     if v[12] < fill.len() as u64 {
         show::bad();
         return;
     }
-    let r = reserved(v, buf);
+    let r = reserved(form, v, buf);
     match r {
         ReservedResult::Err(e) => {
             show::refusal(e);
@@ -363,12 +363,13 @@ pub(crate) fn reserve(v: [u64; 20], fill: &[u8], buf: &mut [u8]) {
     }
 }
 
-fn reserved(v: [u64; 20], buf: &mut [u8]) -> ReservedResult {
-    let c = fields::check_heads(v);
+fn reserved(form: TcForm, v: [u64; 20], buf: &mut [u8]) -> ReservedResult {
+    let c = check(form, v);
     if let CheckResult::Err(e) = c {
         return ReservedResult::Err(e);
     }
-    PusTcCreatorWithReservedAppData::new(
+    PusTcCreatorWithReservedAppData::new_in(
+        form,
         buf,
         fields::header(v),
         second(v),
@@ -406,13 +407,14 @@ fn finish(w: PusTcCreatorWithReservedAppData, fin: u64, buf: &mut [u8]) -> SizeR
 // ---- cmprc
 
 // cmprc MODE DATA SP SEC set has DATA EDITS
-pub(crate) fn compare(line: &[u8], v: [u64; 20], data: &[u8], slice: &[u8]) {
+pub(crate) fn compare(form: TcForm, line: &[u8], v: [u64; 20], data: &[u8], slice: &[u8]) {
     let mode = v[fields::WORD];
-    let r = read::read_as(mode, slice);
+    let r = read::read_in(form, mode, slice);
     match r {
         PusTcRecordResult::Err(e) => show::refusal(e),
         PusTcRecordResult::Ok(_) => compared(
-            creator(TcForm::PUS_C, v, data, text::piece(line, 32, 8)),
+            form,
+            creator(form, v, data, text::piece(line, 32, 8)),
             data,
             slice,
             mode < 3,
@@ -420,11 +422,11 @@ pub(crate) fn compare(line: &[u8], v: [u64; 20], data: &[u8], slice: &[u8]) {
     }
 }
 
-fn compared(r: PusTcCreatorResult, data: &[u8], slice: &[u8], has_checksum: bool) {
+fn compared(form: TcForm, r: PusTcCreatorResult, data: &[u8], slice: &[u8], has_checksum: bool) {
     match r {
         PusTcCreatorResult::Err(e) => show::refusal(e),
         PusTcCreatorResult::Ok(c) => {
-            let same = tc_compare::eq_creator(slice, has_checksum, c, data) as u64;
+            let same = tc_compare::eq_creator_in(form, slice, has_checksum, c, data) as u64;
             show::list(b"", 32, &[same, same], 2);
         }
     }

@@ -10,7 +10,7 @@ use Rattle.space_packet.specs.Fields.{idOf, pscOf}
 use Rattle.space_packet.specs.Header.{readHeader}
 use Rattle.ecss.specs.Frame.{frameOf, checkedOf}
 use Rattle.ecss.specs.Kind.{pusRule, strictRule, readAs, judge}
-use Rattle.tc_header.specs.Form.{formCheck}
+use Rattle.tc_header.specs.Form.{formCheck, allZero}
 use Rattle.tc_header.specs.Header.{tcOf}
 use Rattle.tc_read.specs.Read.{recordIn}
 use Rattle.tc_strict.specs.Verdict.{strictIn}
@@ -24,5 +24,5 @@ abbrev pub capture : List ℕ
 capture = ping ++ (0x61 ∷ 0x6D ∷ []) ++ ping ++ (0x61 ∷ 0x6C ∷ []) ++ (0x19 ∷ 0x23 ∷ 0xC0 ∷ [])
 
 pub reported : reportText capture ≡ ascii "tcverdict 1\n0 13 accept 17 1\n13 13 refuse 4\n26 3 tail\nend 29\n"
-unfolding _⊕_ bit shiftIn run octetBits bitsOf crcFrom refuseIf _then_ idOf pscOf readHeader frameOf checkedOf pusRule strictRule readAs judge formCheck tcOf recordIn strictIn pieceBy stepBy walkBy twoText verdictText lineOf linesOf bodyText reportText decimalIn decimal
+unfolding _⊕_ bit shiftIn run octetBits bitsOf crcFrom refuseIf _then_ idOf pscOf readHeader frameOf checkedOf pusRule strictRule readAs judge formCheck allZero tcOf recordIn strictIn pieceBy stepBy walkBy twoText verdictText lineOf linesOf bodyText reportText decimalIn decimal
 reported = refl

@@ -53,7 +53,7 @@ small-checked s =
     small-then _ (frameOf startC s true) _ (small-frame s) (λ n. small-then _ _ _ (free-if _ _ _ (omega arith) (free-if _ _ _ (omega arith) tt)) (λ _. tt))
 
 small-rule : (h : SpacePacketHeader) (l : List ℕ) → Free (strictRule pusC h l)
-small-rule h l = strict-holds pusC h l _ (omega arith) (omega arith) (omega arith) (omega arith) (omega arith) tt
+small-rule h l = strict-holds pusC h l _ (omega arith) (omega arith) (omega arith) (omega arith) (omega arith) (free-if _ _ _ (omega arith) tt)
 
 small-judge : (s : List ℕ) → Free (judge pusC s)
 unfolding judge
@@ -77,7 +77,7 @@ small-record s n o =
 small-strict : (s : List ℕ) → Octets s → Small (λ (r : PusTcRecord). (service r < 1000) × (subtype r < 1000)) (strictOf s)
 unfolding formCheck strictIn
 small-strict s o =
-    small-then _ (formCheck formC) _ (free-if _ _ _ (omega arith) tt) (λ _. small-then _ (judge pusC s) _ (small-judge s) (λ _. small-record s (statedOf s) o))
+    small-then _ (formCheck formC) _ (free-if _ _ _ (omega arith) (free-if _ _ _ (omega arith) tt)) (λ _. small-then _ (judge pusC s) _ (small-judge s) (λ _. small-record s (statedOf s) o))
 
 -- ---- a line
 

@@ -168,7 +168,9 @@ errorOf n =
     (pick (eqb (n .number) 14) E.TimeLength
     (pick (eqb (n .number) 15) E.NotAReport
     (pick (eqb (n .number) 16) E.RequestNotOpen
-    (pick (eqb (n .number) 17) E.RequestOpen (pick (eqb (n .number) 18) E.TrackerFull E.SourceWidth))))))))))))))))
+    (pick (eqb (n .number) 17) E.RequestOpen
+    (pick (eqb (n .number) 18) E.TrackerFull
+    (pick (eqb (n .number) 19) E.SpareLength (pick (eqb (n .number) 20) E.SpareNotZero E.SourceWidth))))))))))))))))))
 
 pub error-back : (e : PusError) → errorOf (numbersOf e) ≡ e
 unfolding errorOf
@@ -189,6 +191,8 @@ error-back E.NotAReport = refl
 error-back E.RequestNotOpen = refl
 error-back E.RequestOpen = refl
 error-back E.TrackerFull = refl
+error-back E.SpareLength = refl
+error-back E.SpareNotZero = refl
 error-back E.SourceWidth = refl
 
 pub numbers-inj : (e f : PusError) → numbersOf e ≡ numbersOf f → e ≡ f
@@ -213,6 +217,8 @@ not-five E.NotAReport = refl
 not-five E.RequestNotOpen = refl
 not-five E.RequestOpen = refl
 not-five E.TrackerFull = refl
+not-five E.SpareLength = refl
+not-five E.SpareNotZero = refl
 not-five E.SourceWidth = refl
 
 pub no-five : (e : PusError) → numbersOf e .number ≡ 5 → ⊥

@@ -74,6 +74,8 @@ numbersOf E.NotAReport = refusal 15 []
 numbersOf E.RequestNotOpen = refusal 16 []
 numbersOf E.RequestOpen = refusal 17 []
 numbersOf E.TrackerFull = refusal 18 []
+numbersOf E.SpareLength = refusal 19 []
+numbersOf E.SpareNotZero = refusal 20 []
 numbersOf E.SourceWidth = refusal 32 []
 
 -- written out, with 0 for a value that it has not

@@ -59,6 +59,10 @@ pub enum PusError {
     RequestOpen,
     // 18: 32 commands are open
     TrackerFull,
+    // 19: more than four spare octets
+    SpareLength,
+    // 20
+    SpareNotZero,
     // 32: a source ID of another width than 0, 8 and 16 bits
     SourceWidth,
 }
@@ -121,6 +125,8 @@ impl PusError {
             PusError::RequestNotOpen => in_numbers(16, 0, 0, 0),
             PusError::RequestOpen => in_numbers(17, 0, 0, 0),
             PusError::TrackerFull => in_numbers(18, 0, 0, 0),
+            PusError::SpareLength => in_numbers(19, 0, 0, 0),
+            PusError::SpareNotZero => in_numbers(20, 0, 0, 0),
             PusError::SourceWidth => in_numbers(32, 0, 0, 0),
         }
     }

@@ -7,14 +7,14 @@ use Rattle.space_packet.specs.Header.{readHeader}
 use Rattle.ecss.specs.Frame.{frameOf, checkedOf, frameAfter, checkedAfter}
 use Rattle.ecss.specs.Kind.{pusRule, strictRule, readAs, judge}
 use Rattle.ecss_write.specs.Write.{machineTotal, lengthField}
-use Rattle.tc_header.specs.Form.{formCheck}
+use Rattle.tc_header.specs.Form.{formCheck, allZero}
 use Rattle.tc_header.specs.Header.{tcOf}
 use Rattle.tc_read.specs.Read.{recordIn, readIn, checkedIn}
 use Rattle.tc_strict.specs.Verdict.{strictIn}
 use Rattle.tc_demand3.specs.Cases.{Cases}
 
 pub cases-hold : Cases
-unfolding _⊕_ bit shiftIn run octetBits bitsOf crcFrom refuseIf _then_ idOf pscOf readHeader frameOf checkedOf frameAfter checkedAfter machineTotal lengthField pusRule strictRule readAs judge formCheck tcOf recordIn readIn checkedIn strictIn
+unfolding _⊕_ bit shiftIn run octetBits bitsOf crcFrom refuseIf _then_ idOf pscOf readHeader frameOf checkedOf frameAfter checkedAfter machineTotal lengthField pusRule strictRule readAs judge formCheck allZero tcOf recordIn readIn checkedIn strictIn
 cases-hold =
     record {
       p1 = refl;
@@ -39,4 +39,13 @@ cases-hold =
       idle-a = refl;
       idle-version = refl;
       idle-read = refl;
+      spare-three = refl;
+      spare-not-zero = refl;
+      spare-skipped = refl;
+      spare-idle = refl;
+      spare-five = refl;
+      spare-few = refl;
+      spare-most = refl;
+      spare-above = refl;
+      two-forms = (refl, refl);
     }

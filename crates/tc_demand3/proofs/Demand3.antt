@@ -1,6 +1,6 @@
 -- The third demand, for every form that is taken: the strict verdict accepts bytes exactly when they begin with a checksummed
 -- telecommand that the written rules produce from some headers and data of at most 65,542 octets less the start and the checksum,
--- of PUS C 65,529, with an APID of 0 to 2,046. `tc_strict::judge_in` answers `strictIn` of its form and octets.
+-- of PUS C 65,529 less the spare octets, with an APID of 0 to 2,046. `tc_strict::judge_in` answers `strictIn` of its form and octets.
 use Prim.Native.Nat.{ℕ, _-_, _/_, _≤_}
 use mathlib.Core.Path.{_≡_, refl, sym, ap, _∙_, subst}
 use mathlib.Core.Logic.{_↔_}
@@ -22,12 +22,12 @@ use Rattle.exactness.specs.Demand3.{RefusesChanged, Exact, totalFor, Room, Acce
 use Rattle.exactness.proofs.Exact.{unique}
 use Rattle.exactness.proofs.Given.{handed-rules, handed-new, handed-reserve}
 use Rattle.exactness.proofs.Demand3 as Any
-use Rattle.tc_header.specs.Form.{formC, formA, isWidth, formCheck}
+use Rattle.tc_header.specs.Form.{formSpare, formC, formA, isWidth, formCheck}
 use Rattle.tc_header.specs.Header.{tc, pusC}
 use Rattle.tc_header.specs.declared.TcForm.{TcForm}
 use Rattle.tc_write.specs.Command.{commandIn}
 use Rattle.tc_header.specs.declared.PusTcSecondaryHeader.{PusTcSecondaryHeader}
-use Rattle.tc_header.proofs.Forms.{taken, taken-c, form-passes}
+use Rattle.tc_header.proofs.Forms.{taken, taken-spare, taken-c, form-passes}
 use Rattle.tc_header.proofs.Laws.{laws}
 use Rattle.tc_write.proofs.Command.{writer-laws}
 use Rattle.tc_write.specs.Creator.{creatorIn, newIn, PacketWrote}
@@ -45,7 +45,9 @@ use Rattle.tc_demand3.specs.Rules.{Telecommand, AtMost, reportFor}
 module _ (f : TcForm) (good : formCheck f ≡ gives tt) where
   -- The written rules have at most so many octets of data, and so many are within them.
   pub at-most : (p : Telecommand) → (totalFor (tc f) (p .user) ≤ 65542) ↔ AtMost f p
-  at-most p = let w = taken f good .at-most-two in (λ h. omega (arith, h), λ h. omega (arith, h))
+  at-most p =
+      let w = taken f good in
+      let n : startIn f ≤ 15 = omega (arith, w .at-most-two, w .at-most-four) in (λ h. omega (arith, h), λ h. omega (arith, h))
 
   -- 3. The ported reader, with the checksum taken and with it taken and compared, reports the same.
   pub reader-reports : (s : List ℕ) (p : Telecommand) → BeginsWith (tc f) s p
@@ -70,7 +72,7 @@ module _ (f : TcForm) (good : formCheck f ≡ gives tt) where
       → take (reportFor f p .end - reportFor f p .start) (drop (reportFor f p .start) s) ≡ p .user
   reported-data = Any.reported-data (tc f) (laws f good)
 
-  -- and they are the only ones.
+  -- and they are the only ones: one packet for one form (proofs/Spares.antt has what octets are in two).
   pub only : (s : List ℕ) (p q : Telecommand) → BeginsWith (tc f) s p → BeginsWith (tc f) s q → p ≡ q
   only s p q a b = unique (tc f) (laws f good) s p q a b .0
 
@@ -150,16 +152,23 @@ module _ (f : TcForm) (good : formCheck f ≡ gives tt) where
       (λ (r : PusTcRecord). r .total) (λ p. refl)
       (λ s r. packetBy (r .«sp_header») (r .«sec_header») (appDataIn f s true)) (λ s p b. ap (packetBy (p .primary) (p .secondary)) (reader-reports s p b .2))
 
--- ---- the editions: each theorem at PUS C, and at PUS A with each width that is taken; theorem 1 of both
+-- ---- the editions: each theorem at PUS C with each spare length, and at PUS A with each width, that is taken; theorem 1 of both
+
+pub exactly-spare : (n : ℕ) → n ≤ 4 → (s : List ℕ) → Octets s
+    → ((r : PusTcRecord) × (strictIn (formSpare n) s ≡ gives r)) ↔ ((p : Telecommand) × BeginsWith (tc (formSpare n)) s p)
+exactly-spare n h = exactly (formSpare n) (taken-spare n h)
 
 pub exactly-c : (s : List ℕ) → Octets s → ((r : PusTcRecord) × (strictOf s ≡ gives r)) ↔ ((p : Telecommand) × BeginsWith pusC s p)
 exactly-c = exactly formC taken-c
 
 pub exactly-a : (w : ℕ) → isWidth w ≡ true → (s : List ℕ) → Octets s
     → ((r : PusTcRecord) × (strictIn (formA w) s ≡ gives r)) ↔ ((p : Telecommand) × BeginsWith (tc (formA w)) s p)
-exactly-a w h = exactly (formA w) (form-passes (formA w) h)
+exactly-a w h = exactly (formA w) (form-passes (formA w) h (omega arith))
 
--- PUS C has at most 65,529 octets of data, and PUS A 65,531 less those of the source ID
+-- PUS C has at most 65,529 octets of data less the spare ones, and PUS A 65,531 less those of the source ID
+pub at-most-spare : (n : ℕ) (p : Telecommand) → AtMost (formSpare n) p ↔ (length (p .user) ≤ 65529 - n)
+at-most-spare n p = (λ h. omega (arith, h), λ h. omega (arith, h))
+
 pub at-most-c : (p : Telecommand) → AtMost formC p ↔ (length (p .user) ≤ 65529)
 at-most-c p = (λ h. h, λ h. h)
 

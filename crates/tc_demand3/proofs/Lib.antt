@@ -1,4 +1,5 @@
 pub mod Demand3
+pub mod Spares
 pub mod Cases
 pub mod Bits
 pub mod Pinged

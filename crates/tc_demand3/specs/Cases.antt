@@ -1,4 +1,5 @@
--- The cases at the edges, P1 to P12 of PUS C, four of PUS A and five of idle packets, as one table of what the definitions answer.
+-- The cases at the edges, P1 to P12 of PUS C, four of PUS A, five of idle packets and nine of spare octets, as one table of what the
+-- definitions answer.
 use mathlib.Core.Path.{_≡_}
 use mathlib.Core.Bool.{true, false}
 use mathlib.Core.List.{List, [], _∷_, _++_}
@@ -7,14 +8,14 @@ use Rattle.crc_register.specs.Crc.{crcOf}
 use Rattle.space_packet.specs.Answer.{gives, refuses, refusal}
 use Rattle.ecss_write.specs.Write.{lengthField}
 use Rattle.ecss.specs.declared.PusVersion.the-variants.{PusA, PusC}
-use Rattle.tc_read.specs.Read.{readOf, checkedRead}
+use Rattle.tc_read.specs.Read.{readOf, checkedIn, checkedRead}
 use Rattle.tc_read.specs.declared.PusTcRecord.{PusTcRecord}
 use Rattle.ecss.specs.declared.Crc16.the-variants.{Some, None}
 use Rattle.space_packet.specs.declared.PacketType.the-variants.{Tc}
 use Rattle.space_packet.specs.declared.SequenceFlags.the-variants.{Unsegmented}
 use Rattle.space_packet.specs.declared.SpacePacketHeader.{SpacePacketHeader}
 use Rattle.ecss.specs.Version.{messageType}
-use Rattle.tc_header.specs.Form.{formA, formC}
+use Rattle.tc_header.specs.Form.{formSpare, formA, formC}
 use Rattle.tc_header.specs.Header.{ackOf, secFrom}
 use Rattle.tc_write.specs.Creator.{creatorIn}
 use Rattle.tc_write.specs.Builder.{builderOf}
@@ -35,15 +36,19 @@ headerFor apid n = record {
   «data_len» = n;
 }
 
-abbrev pub recordFor : ℕ → ℕ → PusTcRecord
-recordFor apid crc = record {
-  «sp_header» = headerFor apid 6;
+-- with the length field n, and data from `start` up to the checksum
+abbrev pub recordFrom : ℕ → ℕ → ℕ → ℕ → PusTcRecord
+recordFrom apid n start crc = record {
+  «sp_header» = headerFor apid n;
   «sec_header» = record { «message_type_id» = record { «type_id» = 17; «subtype_id» = 1 }; «source_id» = 0; «ack_flags» = record { 0 = 15 }; version = PusC };
-  start = 11;
-  end = 11;
-  total = 13;
+  start = start;
+  end = n + 5;
+  total = n + 7;
   crc16 = Some crc;
 }
+
+abbrev pub recordFor : ℕ → ℕ → PusTcRecord
+recordFor apid crc = recordFrom apid 6 11 crc
 
 abbrev pub pingRecord : PusTcRecord
 pingRecord = recordFor 291 0x616D
@@ -79,10 +84,10 @@ pingRecordA = record {
   crc16 = Some 0x8A99;
 }
 
--- the ping command with the low octet of another APID, which has the highest three bits set, and with the first half of octet 6:
--- 1F .. C0 05 00 06 .F 11 01 00 00
-abbrev pub pingTo : ℕ → ℕ → List ℕ
-pingTo low half = 0x1F ∷ low ∷ 0xC0 ∷ 0x05 ∷ 0x00 ∷ 0x06 ∷ (half * 16 + 15) ∷ 0x11 ∷ 0x01 ∷ 0x00 ∷ 0x00 ∷ []
+-- the ping command with the length field n, the low octet of another APID, which has the highest three bits set, and the first half of
+-- octet 6: 1F .. C0 05 00 n .F 11 01 00 00
+abbrev pub pingTo : ℕ → ℕ → ℕ → List ℕ
+pingTo n low half = 0x1F ∷ low ∷ 0xC0 ∷ 0x05 ∷ 0x00 ∷ n ∷ (half * 16 + 15) ∷ 0x11 ∷ 0x01 ∷ 0x00 ∷ 0x00 ∷ []
 
 pub record Cases : Type 0 where
   -- the checksum of no octets, of 00, of FF, and of FF FF
@@ -111,8 +116,21 @@ pub record Cases : Type 0 where
   pub a-from-c : strictIn (formA 16) (ping 6 ++ (0x61 ∷ 0x6D ∷ [])) ≡ refuses (refusal 3 (2 ∷ []))
   pub a-width : strictIn (formA 9) (pingA 1 ++ (0x8A ∷ 0x99 ∷ [])) ≡ refuses (refusal 32 [])
   -- APID 2,046 is accepted; 2,047 is refused, in PUS A too, but behind another PUS version; and the reader takes it
-  pub before-idle : strictOf (pingTo 0xFE 2 ++ (0x1A ∷ 0x1A ∷ [])) ≡ gives (recordFor 2046 0x1A1A)
-  pub idle : strictOf (pingTo 0xFF 2 ++ (0x75 ∷ 0x5F ∷ [])) ≡ refuses (refusal 12 [])
-  pub idle-a : strictIn (formA 16) (pingTo 0xFF 1 ++ (0x79 ∷ 0xB1 ∷ [])) ≡ refuses (refusal 12 [])
-  pub idle-version : strictOf (pingTo 0xFF 1 ++ (0x79 ∷ 0xB1 ∷ [])) ≡ refuses (refusal 3 (1 ∷ []))
-  pub idle-read : checkedRead (pingTo 0xFF 2 ++ (0x75 ∷ 0x5F ∷ [])) ≡ gives (recordFor 2047 0x755F)
+  pub before-idle : strictOf (pingTo 6 0xFE 2 ++ (0x1A ∷ 0x1A ∷ [])) ≡ gives (recordFor 2046 0x1A1A)
+  pub idle : strictOf (pingTo 6 0xFF 2 ++ (0x75 ∷ 0x5F ∷ [])) ≡ refuses (refusal 12 [])
+  pub idle-a : strictIn (formA 16) (pingTo 6 0xFF 1 ++ (0x79 ∷ 0xB1 ∷ [])) ≡ refuses (refusal 12 [])
+  pub idle-version : strictOf (pingTo 6 0xFF 1 ++ (0x79 ∷ 0xB1 ∷ [])) ≡ refuses (refusal 3 (1 ∷ []))
+  pub idle-read : checkedRead (pingTo 6 0xFF 2 ++ (0x75 ∷ 0x5F ∷ [])) ≡ gives (recordFor 2047 0x755F)
+  -- three spare octets: a ping command in 16 octets is accepted; one that is 1 is refused, last of all, and read over; five are refused
+  -- before all else; 13 octets are too few; and there is room for three octets of data less
+  pub spare-three : strictIn (formSpare 3) (ping 9 ++ (0x00 ∷ 0x00 ∷ 0x00 ∷ 0x49 ∷ 0x79 ∷ [])) ≡ gives (recordFrom 291 9 14 0x4979)
+  pub spare-not-zero : strictIn (formSpare 3) (ping 9 ++ (0x00 ∷ 0x01 ∷ 0x00 ∷ 0x7A ∷ 0x48 ∷ [])) ≡ refuses (refusal 20 [])
+  pub spare-skipped : checkedIn (formSpare 3) (ping 9 ++ (0x00 ∷ 0x01 ∷ 0x00 ∷ 0x7A ∷ 0x48 ∷ [])) ≡ gives (recordFrom 291 9 14 0x7A48)
+  pub spare-idle : strictIn (formSpare 3) (pingTo 9 0xFF 2 ++ (0x00 ∷ 0x01 ∷ 0x00 ∷ 0x86 ∷ 0x1C ∷ [])) ≡ refuses (refusal 12 [])
+  pub spare-five : strictIn (formSpare 5) (ping 6 ++ (0x61 ∷ 0x6C ∷ [])) ≡ refuses (refusal 19 [])
+  pub spare-few : strictIn (formSpare 3) (ping 6 ++ (0x61 ∷ 0x6D ∷ [])) ≡ refuses (refusal 2 (13 ∷ 14 ∷ []))
+  pub spare-most : lengthField 14 true 65526 ≡ gives 65535
+  pub spare-above : lengthField 14 true 65527 ≡ refuses (refusal 6 (65527 ∷ []))
+  -- 14 octets that two spare lengths accept: a zero that is data, or the one spare octet
+  pub two-forms : (strictOf (ping 7 ++ (0x00 ∷ 0xA9 ∷ 0xE6 ∷ [])) ≡ gives (recordFrom 291 7 11 0xA9E6))
+      × (strictIn (formSpare 1) (ping 7 ++ (0x00 ∷ 0xA9 ∷ 0xE6 ∷ [])) ≡ gives (recordFrom 291 7 12 0xA9E6))

@@ -22,7 +22,7 @@ abbrev pub Telecommand : Type 0
 Telecommand = Packet PusTcSecondaryHeader
 
 module _ (f : TcForm) where
-  -- the most data: of PUS C 65,529 octets
+  -- the most data: of PUS C 65,529 octets less the spare ones
   abbrev pub AtMost : Telecommand → Type 0
   AtMost p = length (p .user) ≤ 65542 - startIn f - 2
 

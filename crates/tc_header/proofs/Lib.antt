@@ -1,5 +1,6 @@
 pub mod Checks
 pub mod Forms
+pub mod Spares
 pub mod Laws
 pub mod Determined
 pub mod Flags

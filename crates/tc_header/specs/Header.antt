@@ -4,7 +4,7 @@ use Prim.Native.Nat.{ℕ, _+_, _*_, _/_, _%_, _≤_}
 use mathlib.Core.Path.{_≡_}
 use mathlib.Core.Bool.{Bool, _&&_}
 use mathlib.Core.List.{List, [], _∷_, _++_}
-use lib.ListN.{length, getD}
+use lib.ListN.{length, getD, replicate}
 use lib.Dec.{eqb, ltb}
 use Rattle.space_packet.specs.Bits.{bits, flagNumber}
 use Rattle.space_packet.specs.Answer.{Answer, Passed, refusal, gives, refuses, refuseIf, _then_, inRange, numbersOf, inBuffer}
@@ -13,7 +13,7 @@ use Rattle.ecss.specs.Version.{versionNumber, versionIs, messageAt}
 use Rattle.ecss.specs.Kind.{Kind}
 use Rattle.ecss.specs.declared.MessageTypeId.{MessageTypeId}
 use Rattle.ecss.specs.declared.PusVersion.{PusVersion}
-use Rattle.tc_header.specs.Form.{formC, formCheck, sourceLen, sourceOctets, sourceAt, SourceFits, sourceCheck}
+use Rattle.tc_header.specs.Form.{formC, formCheck, sourceLen, sourceOctets, sourceAt, SourceFits, sourceCheck, spareAt, spareRule}
 use Rattle.tc_header.specs.declared.AckFlags.{AckFlags}
 use Rattle.tc_header.specs.declared.AckFlagsResult.{AckFlagsResult}
 use Rattle.tc_header.specs.declared.AckFlagsResult.the-variants as A
@@ -49,11 +49,11 @@ fieldsRow width x =
     bits 4 (x .«ack_flags» .0) ++ bits 8 (x .«message_type_id» .«type_id») ++ bits 8 (x .«message_type_id» .«subtype_id»)
     ++ bits width (x .«source_id»)
 
--- PUS C: TC packet PUS version number 4 bits, source ID 16; the standard's row may end in spare bits, and there are none here
-unfoldable pub secRow : PusTcSecondaryHeader → List Bool
-secRow x = bits 4 (versionNumber (x .version)) ++ fieldsRow 16 x
+-- PUS C: TC packet PUS version number 4 bits, source ID 16, and spare bits that are zero, here of n octets
+unfoldable pub secRow : ℕ → PusTcSecondaryHeader → List Bool
+secRow n x = bits 4 (versionNumber (x .version)) ++ fieldsRow 16 x ++ bits (8 * n) 0
 
--- PUS A: a bit that is zero, TC packet PUS version number 3 bits
+-- PUS A: a bit that is zero, TC packet PUS version number 3 bits; no spare
 unfoldable pub rowA : ℕ → PusTcSecondaryHeader → List Bool
 rowA width x = bits 1 0 ++ bits 3 (versionNumber (x .version)) ++ fieldsRow width x
 
@@ -64,7 +64,7 @@ firstOctets x =
     ∷ x .«message_type_id» .«subtype_id» ∷ []
 
 unfoldable pub tcOctets : TcForm → PusTcSecondaryHeader → List ℕ
-tcOctets f x = firstOctets x ++ sourceOctets (sourceLen f) (x .«source_id»)
+tcOctets f x = firstOctets x ++ sourceOctets (sourceLen f) (x .«source_id») ++ replicate (f .«spare_len») 0
 
 abbrev pub secOctets : PusTcSecondaryHeader → List ℕ
 secOctets = tcOctets formC
@@ -72,7 +72,7 @@ secOctets = tcOctets formC
 abbrev pub secFrom : MessageTypeId → AckFlags → ℕ → PusVersion → PusTcSecondaryHeader
 secFrom m a n v = record { «message_type_id» = m; «source_id» = n; «ack_flags» = a; version = v }
 
--- the header that octets are; its version is always reported as the form's
+-- the header that octets are; its version is always reported as the form's, and its spare octets are skipped
 unfoldable pub tcOf : TcForm → List ℕ → PusTcSecondaryHeader
 tcOf f l = secFrom (messageAt l) (ackOf (getD l 0 0 % 16)) (sourceAt (sourceLen f) l) (f .version)
 
@@ -97,34 +97,34 @@ pub record Fits (f : TcForm) (x : PusTcSecondaryHeader) : Type 0 where
   pub ack-fits : x .«ack_flags» .0 ≤ 15
   pub source-fits : SourceFits (sourceLen f) (x .«source_id»)
 
--- telecommands of a form; the strict checks ask nothing more than every kind's
+-- telecommands of a form; besides what every kind is asked, the strict checks ask for zeros in the spare octets
 abbrev pub tc : TcForm → Kind PusTcSecondaryHeader
 tc f = record {
   type = Tc;
   other = refusal 10 [];
   version = versionNumber (f .version);
-  size = 3 + sourceLen f;
+  size = spareAt f + f .«spare_len»;
   enc = tcOctets f;
   dec = tcOf f;
-  rule = λ l. gives tt;
+  rule = spareRule f;
   Fits = Fits f;
 }
 
--- PUS C: version 2, and a secondary header of five octets
+-- PUS C with no spare: version 2, and a secondary header of five octets
 abbrev pub pusC : Kind PusTcSecondaryHeader
 pusC = tc formC
 
 -- ---- the calls
 
--- the form, and the fields in it: 32, 7
+-- the form, and the fields in it: 32, 19, 7
 abbrev pub widthsCheck : TcForm → PusTcSecondaryHeader → Passed
 widthsCheck f x = formCheck f then λ _. fieldsCheck f x
 
--- new_in: 32, 7
+-- new_in: 32, 19, 7
 abbrev pub secMade : TcForm → PusTcSecondaryHeader → Answer PusTcSecondaryHeader
 secMade f x = widthsCheck f x then λ _. gives x
 
--- what write_to_slice_in asks, on a buffer of n octets: 32, 7, 1, 3
+-- what write_to_slice_in asks, on a buffer of n octets: 32, 19, 7, 1, 3
 unfoldable pub secChecks : TcForm → PusTcSecondaryHeader → ℕ → Passed
 secChecks f x n = widthsCheck f x then λ _. inBuffer n (tc f .size) then λ _. versionIn f (x .version)
 
@@ -134,7 +134,7 @@ secWriteIn f x n = secChecks f x n then λ _. gives (tc f .size)
 abbrev pub secWrite : PusTcSecondaryHeader → ℕ → Answer ℕ
 secWrite = secWriteIn formC
 
--- from_be_bytes_in: 32, 2
+-- from_be_bytes_in: 32, 19, 2
 unfoldable pub secReadIn : TcForm → List ℕ → Answer PusTcSecondaryHeader
 secReadIn f s =
     formCheck f then λ _. refuseIf (ltb (length s) (tc f .size)) (refusal 2 (length s ∷ tc f .size ∷ [])) (gives (tcOf f s))

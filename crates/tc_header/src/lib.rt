@@ -1,15 +1,17 @@
 // The secondary header of a telecommand after ECSS-E-ST-70-41C and, for PUS A, ECSS-E-70-41A; its form, and its acknowledgement
-// flags. The calls named after the Rust have PUS C; their siblings, which end in `_in`, take a form.
+// flags. The calls named after the Rust have PUS C with no spare octets; their siblings, which end in `_in`, take a form.
 ghost use mathlib.Core.Path.{_≡_};
-ghost use mathlib.Core.List.{_++_};
+ghost use mathlib.Core.List.{[], _++_};
 ghost use Prim.Native.Nat.{_+_, _*_, _/_, _%_, _<_, _≤_};
-ghost use lib.ListN.{length, take, drop};
+ghost use lib.ListN.{length, getD, take, drop, replicate};
 ghost use Rattle.space_packet.specs.Bits.{lowest};
-ghost use Rattle.space_packet.specs.Answer.{gives, _then_, inRange, checkAnswer};
+ghost use Rattle.space_packet.specs.Answer.{refusal, gives, _then_, inRange, checkAnswer};
 ghost use Rattle.space_packet.specs.Wrote.{Wrote};
-ghost use Rattle.ecss.specs.Kind.{startOf, secondaryOf, strictRule};
+ghost use Rattle.space_packet.specs.declared.PacketType.the-variants.{Tc};
+ghost use Rattle.ecss.specs.Kind.{startOf, secondaryOf, pusRule, strictRule};
+ghost use Rattle.ecss.specs.Version.{versionNumber};
 ghost use Rattle.ecss.specs.declared.PusVersion.the-variants.{PusC};
-ghost use Rattle.tc_header.specs.Form.{formA, formCheck, sourceLen, sourceOctets, sourceAt, sourceCheck, sameForm};
+ghost use Rattle.tc_header.specs.Form.{formSpare, formA, isWidth, formCheck, sourceLen, sourceOctets, sourceAt, sourceCheck, sameForm, spareAt, spareOf, allZero, spareRule};
 ghost use Rattle.tc_header.specs.Header.{ackCheck, ackOf, ackAnswer, withFlag, firstOctets, tcOctets, secOctets, secFrom, versionIn, versionCheck, fieldsCheck, widthsCheck, secMade, secChecks, secWriteIn, secWrite, secReadIn, secRead, secAnswer, sameSec, tc, pusC};
 use ecss::MessageTypeId;
 use ecss::PusError;
@@ -22,9 +24,9 @@ use space_packet::PacketType;
 use space_packet::SizeResult;
 use space_packet::SpHeader;
 
-// Length of the secondary header of PUS C.
+// Length of the secondary header of PUS C with no spare octets.
 pub const PUC_TC_SECONDARY_HEADER_LEN: usize = 5;
-// Least length of a telecommand of PUS C, with no data and no checksum.
+// Least length of such a telecommand, with no data and no checksum.
 pub const PUS_TC_MIN_LEN_WITHOUT_APP_DATA: usize = 11;
 
 // Holds that length to the octet at which the data starts, and is there for its contract.
@@ -36,21 +38,36 @@ fn min_len() -> usize
 
 // ---- the form
 
-// The edition of a telecommand, and with it the width of its source ID in bits.
+// The edition of a telecommand, and with it the width of its source ID in bits and how many spare octets end its secondary header.
 pub struct TcForm {
     version: PusVersion,
     source_width: u8,
+    spare_len: u8,
 }
 
 impl TcForm {
-    // The longest secondary header of a form that is taken.
-    pub const MAX_SEC_HEADER_LEN: usize = PUC_TC_SECONDARY_HEADER_LEN;
+    // The most spare octets of a form that is taken.
+    pub const MAX_SPARE_LEN: usize = 4;
+    // Its longest secondary header.
+    pub const MAX_SEC_HEADER_LEN: usize = PUC_TC_SECONDARY_HEADER_LEN + TcForm::MAX_SPARE_LEN;
 
-    // ECSS-E-ST-70-41C: a source ID of 16 bits.
+    // ECSS-E-ST-70-41C: a source ID of 16 bits, and no spare.
     pub const PUS_C: TcForm = TcForm {
         version: PusVersion::PusC,
         source_width: 16,
+        spare_len: 0,
     };
+
+    // ECSS-E-ST-70-41C with 0 to 4 spare octets, as the mission fixes them. More are refused where the form is used.
+    pub fn pus_c(spare_len: u8) -> TcForm
+        ensures { λ r. ⌜ r ≡ formSpare «spare_len» ⌝ }
+    {
+        TcForm {
+            version: PusVersion::PusC,
+            source_width: 16,
+            spare_len,
+        }
+    }
 
     // ECSS-E-70-41A: a source ID of 0, 8 or 16 bits, as the mission fixes it. Another width is refused where the form is used.
     pub fn pus_a(source_width: u8) -> TcForm
@@ -59,6 +76,7 @@ impl TcForm {
         TcForm {
             version: PusVersion::PusA,
             source_width,
+            spare_len: 0,
         }
     }
 
@@ -74,28 +92,37 @@ impl TcForm {
         self.source_width
     }
 
-    // 32 for another width than 0, 8 and 16.
+    pub fn spare_len(self) -> u8
+        ensures { λ r. ⌜ r ≡ self .«spare_len» ⌝ }
+    {
+        self.spare_len
+    }
+
+    // 32 for another width than 0, 8 and 16; 19 for more than four spare octets.
     pub fn check(self) -> CheckResult
         ensures { λ r. ⌜ checkAnswer r ≡ formCheck self ⌝ }
     {
-        let w = self.source_width;
-        if w == 16 {
-            return CheckResult::Ok;
+        if !is_width(self.source_width) {
+            return CheckResult::Err(PusError::SourceWidth);
         }
-        if w == 8 {
-            return CheckResult::Ok;
+        if TcForm::MAX_SPARE_LEN < self.spare_len as usize {
+            return CheckResult::Err(PusError::SpareLength);
         }
-        if w == 0 {
-            return CheckResult::Ok;
-        }
-        CheckResult::Err(PusError::SourceWidth)
+        CheckResult::Ok
+    }
+
+    // Where the spare octets begin in the secondary header: behind three octets and the source ID.
+    fn spare_at(self) -> usize
+        ensures { λ r. ⌜ r ≡ spareAt self ⌝ }
+    {
+        3 + (self.source_width / 8) as usize
     }
 
     // Length of the secondary header.
     pub fn sec_header_len(self) -> usize
         ensures { λ r. ⌜ r ≡ tc self .size ⌝ }
     {
-        3 + (self.source_width / 8) as usize
+        self.spare_at() + self.spare_len as usize
     }
 
     // Least length of a telecommand, with no data and no checksum: the octet at which the data starts.
@@ -112,13 +139,14 @@ impl TcForm {
         frame::sec_header_part(packet, self.sec_header_len())
     }
 
-    // Whether the edition and the width are the same.
+    // Whether the edition, the width and the spare length are the same.
     pub fn eq(self, other: TcForm) -> bool
         ensures { λ r. ⌜ r ≡ sameForm self other ⌝ }
     {
         let v = self.version;
         let w = other.version;
-        (v.raw_value() == w.raw_value()) & (self.source_width == other.source_width)
+        (v.raw_value() == w.raw_value())
+            & ((self.source_width == other.source_width) & (self.spare_len == other.spare_len))
     }
 
     // What a setter and a write ask of a source ID: 7 where it is over its width.
@@ -168,6 +196,56 @@ impl TcForm {
             buf[3] = (source_id % 256) as u8;
         }
     }
+
+    // Writes zeros to the spare octets.
+    fn put_spare(self, buf: &mut [u8])
+        requires { ⌜ tc self .size ≤ length (now buf) ⌝ }
+        ensures { λ _. ⌜ now (buf .exit) ≡ take (spareAt self) (now (buf .entry)) ++ replicate (self .«spare_len») 0 ++ drop (tc self .size) (now (buf .entry)) ⌝ }
+    {
+        let at = self.spare_at();
+        let n = self.spare_len as usize;
+        let mut i: usize = 0;
+        while i < n {
+            buf[at + i] = 0;
+            i += 1;
+        }
+    }
+
+    // The spare octets of a secondary header.
+    fn spare_part(self, second: &[u8]) -> &[u8]
+        ensures { λ r. ⌜ now r ≡ spareOf self (now (second .entry)) ⌝ }
+    {
+        frame::part_at(second, self.spare_at(), self.spare_len as usize)
+    }
+
+    // What the strict checks ask of them: 20 where one is not zero.
+    fn check_spare(self, second: &[u8]) -> CheckResult
+        ensures { λ r. ⌜ checkAnswer r ≡ spareRule self (now (second .entry)) ⌝ }
+    {
+        if !all_zero(self.spare_part(second)) {
+            return CheckResult::Err(PusError::SpareNotZero);
+        }
+        CheckResult::Ok
+    }
+}
+
+fn is_width(w: u8) -> bool
+    ensures { λ r. ⌜ r ≡ isWidth w ⌝ }
+{
+    (w == 16) | ((w == 8) | (w == 0))
+}
+
+fn all_zero(s: &[u8]) -> bool
+    ensures { λ r. ⌜ r ≡ allZero (now (s .entry)) ⌝ }
+{
+    let mut i: usize = 0;
+    while i < s.len() {
+        if s[i] != 0 {
+            return false;
+        }
+        i += 1;
+    }
+    true
 }
 
 // ---- the acknowledgement flags
@@ -320,7 +398,7 @@ impl PusTcSecondaryHeader {
         }
     }
 
-    // With the form's version; 32, 7.
+    // With the form's version; 32, 19, 7.
     pub fn new_in(
         form: TcForm,
         message_type_id: MessageTypeId,
@@ -343,7 +421,7 @@ impl PusTcSecondaryHeader {
         SecHeaderResult::Ok(made)
     }
 
-    // All four acknowledgements, and source 0; 32.
+    // All four acknowledgements, and source 0; 32, 19.
     pub fn new_simple_in(form: TcForm, message_type_id: MessageTypeId) -> SecHeaderResult
         ensures { λ r. ⌜ secAnswer r ≡ secMade form (secFrom «message_type_id» (ackOf 15) 0 (form .version)) ⌝ }
     {
@@ -414,7 +492,7 @@ impl PusTcSecondaryHeader {
         form.check_source_id(self.source_id)
     }
 
-    // The form, then the fields; 32, 7.
+    // The form, then the fields; 32, 19, 7.
     fn check_widths(self, form: TcForm) -> CheckResult
         ensures { λ r. ⌜ checkAnswer r ≡ widthsCheck form self ⌝ }
     {
@@ -446,7 +524,7 @@ impl PusTcSecondaryHeader {
         PusTcSecondaryHeader::from_be_bytes_in(TcForm::PUS_C, s)
     }
 
-    // The header that as many octets are as the form has; 32, 2. The version is always the form's.
+    // The header that as many octets are as the form has; 32, 19, 2. The version is always the form's.
     pub fn from_be_bytes_in(form: TcForm, s: &[u8]) -> SecHeaderResult
         ensures { λ r. ⌜ secAnswer r ≡ secReadIn form (now (s .entry)) ⌝ }
     {
@@ -471,7 +549,7 @@ impl PusTcSecondaryHeader {
         })
     }
 
-    // What a write into that many octets asks; 32, 7, 1, 3.
+    // What a write into that many octets asks; 32, 19, 7, 1, 3.
     fn check(self, form: TcForm, room: usize) -> CheckResult
         ensures { λ r. ⌜ checkAnswer r ≡ secChecks form self room ⌝ }
     {
@@ -496,7 +574,7 @@ impl PusTcSecondaryHeader {
         self.write_to_slice_in(TcForm::PUS_C, buf)
     }
 
-    // Writes as many octets as the form has; 32, 7, 1, 3.
+    // Writes as many octets as the form has; 32, 19, 7, 1, 3.
     pub fn write_to_slice_in(self, form: TcForm, buf: &mut [u8]) -> SizeResult
         ensures { λ r. ⌜ Wrote (secWriteIn form self (length (now (buf .entry)))) (tcOctets form self) (now (buf .entry)) r (now (buf .exit)) ⌝ }
     {
@@ -514,6 +592,7 @@ impl PusTcSecondaryHeader {
     {
         self.put_first(buf);
         form.put_source(self.source_id, buf);
+        form.put_spare(buf);
     }
 
     // Writes the three octets before the source ID.
@@ -528,9 +607,28 @@ impl PusTcSecondaryHeader {
     }
 }
 
-// The strict checks of a telecommand, on its primary header and its secondary header's octets; 9, 10, 11, 3, 12.
+// The strict checks of a telecommand, on its primary header and its secondary header's octets; 9, 10, 11, 3, 12, 20.
 pub fn strict_rule(form: TcForm, h: SpHeader, second: &[u8]) -> CheckResult
     ensures { λ r. ⌜ checkAnswer r ≡ strictRule (tc form) h (now (second .entry)) ⌝ }
+{
+    let shared = shared_rule(form, h, second);
+    let spare = form.check_spare(second);
+    first_refusal(shared, spare)
+}
+
+// What the first of two checks is refused with, or else the second.
+fn first_refusal(first: CheckResult, second: CheckResult) -> CheckResult
+    ensures { λ r. ⌜ checkAnswer r ≡ (checkAnswer first then λ _. checkAnswer second) ⌝ }
+{
+    match first {
+        CheckResult::Err(_) => first,
+        CheckResult::Ok => second,
+    }
+}
+
+// Those that every kind shares.
+fn shared_rule(form: TcForm, h: SpHeader, second: &[u8]) -> CheckResult
+    ensures { λ r. ⌜ checkAnswer r ≡ pusRule Tc (refusal 10 []) (versionNumber (form .version)) h (getD (now (second .entry)) 0 0) ⌝ }
 {
     let edition = form.version;
     ecss::pus_rule(

@@ -1,6 +1,6 @@
 -- A telecommand written reads back as itself, and octets that verify write back as themselves.
 use Prim.Native.Nat.{ℕ, _+_, _-_, _/_}
-use mathlib.Core.Path.{_≡_, refl, sym, ap, _∙_}
+use mathlib.Core.Path.{_≡_, sym, ap, _∙_}
 use mathlib.Core.Bool.{Bool, true}
 use mathlib.Core.List.{List, _++_}
 use native.Mathlib.Omega.{arith}
@@ -8,12 +8,12 @@ use lib.ListN.{length, getD}
 use Rattle.space_packet.specs.Answer.{Answer, gives}
 use Rattle.space_packet.proofs.Answers.{gives-then}
 use Rattle.ecss.specs.Frame.{Octets, trailer, closed, dataPart}
-use Rattle.ecss.specs.Kind.{Packet, Stated, contentOf, packetOf, readAs}
+use Rattle.ecss.specs.Kind.{Packet, Stated, secondaryOf, contentOf, packetOf, readAs}
 use Rattle.ecss.proofs.After.{checked-given}
 use Rattle.ecss.proofs.Pieces.{primary-is, secondary-is}
 use Rattle.ecss.proofs.RoundTrip as Any
 use Rattle.ecss.specs.Version.{versionNumber}
-use Rattle.tc_header.specs.Form.{formCheck}
+use Rattle.tc_header.specs.Form.{formCheck, spareRule}
 use Rattle.tc_header.specs.Header.{tc}
 use Rattle.tc_header.specs.declared.TcForm.{TcForm}
 use Rattle.tc_header.specs.declared.PusTcSecondaryHeader.{PusTcSecondaryHeader}
@@ -67,15 +67,16 @@ module _ (f : TcForm) (good : formCheck f ≡ gives tt) where
 -- ---- read, then written
 
 module _ (f : TcForm) where
-  -- octets that verify, and whose version nibble is the form's: what is reported, its headers and its data, written again, is the packet
+  -- octets that verify, whose version nibble is the form's and whose spare octets are zeros: what is reported, its headers and its data,
+  -- written again, is the packet
   pub report-written : (s : List ℕ) (r : PusTcRecord) → Octets s → checkedIn f s ≡ gives r → getD s 6 0 / 16 ≡ versionNumber (f .version)
-      → packetOf (tc f) (record { primary = r .«sp_header»; secondary = r .«sec_header»; user = appDataIn f s true }) ≡ rawDataIn f s true
+      → spareRule f (secondaryOf (tc f .size) s) ≡ gives tt → packetOf (tc f) (record { primary = r .«sp_header»; secondary = r .«sec_header»; user = appDataIn f s true }) ≡ rawDataIn f s true
   unfolding recordIn readAs
-  report-written s r o p v =
+  report-written s r o p v u =
       let q = checked-is f s r p in
       let g = read-is f s true r (checked-read f s r p) .0 in
       let d = ap (λ (a : Answer ℕ). dataPart (startIn f) true a s) g in
       let e : record { primary = r .«sp_header»; secondary = r .«sec_header»; user = appDataIn f s true } ≡ readAs (tc f) s (r .total) = λ i. record { primary = q .1 i .«sp_header»; secondary = q .1 i .«sec_header»; user = d i } in
       ap (packetOf (tc f)) e
-      ∙ Any.verified-written (tc f) (laws f (checked-given _ _ s (r .total) (q .0) .good)) _ s (r .total) (omega arith) o (q .0) v refl
+      ∙ Any.verified-written (tc f) (laws f (checked-given _ _ s (r .total) (q .0) .good)) _ s (r .total) (omega arith) o (q .0) v u
       ∙ sym (raw-part f s true r (checked-read f s r p))

@@ -13,7 +13,7 @@ use Rattle.tc_read.specs.declared.PusTcRecord.{PusTcRecord}
 use Rattle.tc_read.specs.declared.PusTcRecordResult.{PusTcRecordResult}
 use Rattle.tc_read.specs.declared.PusTcRecordResult.the-variants as R
 
--- where the data starts, and of PUS C
+-- where the data starts, and of PUS C with no spare octets
 abbrev pub startIn : TcForm → ℕ
 startIn f = startOf (tc f)
 
@@ -35,7 +35,7 @@ abbrev pub recordAnswer : PusTcRecordResult → Answer PusTcRecord
 recordAnswer (R.Ok r) = gives r
 recordAnswer (R.Err e) = refuses (numbersOf e)
 
--- the total of the packet that octets begin with, for the choice of checksum: 32, 2; and where it is compared: 32, 2, 4
+-- the total of the packet that octets begin with, for the choice of checksum: 32, 19, 2; and where it is compared: 32, 19, 2, 4
 abbrev pub frameIn : TcForm → List ℕ → Bool → Answer ℕ
 frameIn f s b = frameAfter (formCheck f) (startIn f) s b
 
@@ -57,7 +57,7 @@ appDataIn f s b = dataPart (startIn f) b (frameIn f s b) s
 abbrev pub rawDataIn : TcForm → List ℕ → Bool → List ℕ
 rawDataIn f s b = rawPart (frameIn f s b) s
 
--- ---- of PUS C
+-- ---- of PUS C with no spare octets
 
 abbrev pub readOf : List ℕ → Bool → Answer PusTcRecord
 readOf = readIn formC

@@ -1,5 +1,6 @@
 // Telecommands read, after ECSS-E-ST-70-41C and, for PUS A, ECSS-E-70-41A: the record of what octets hold, and the parts of them
-// that are handed out without a copy. The calls named after the Rust read PUS C; their siblings, which end in `_in`, take a form.
+// that are handed out without a copy. The calls named after the Rust read PUS C with no spare octets; their siblings, which end in
+// `_in`, take a form.
 ghost use mathlib.Core.Path.{_≡_};
 ghost use mathlib.Core.Bool.{false};
 ghost use lib.Dec.{eqb};

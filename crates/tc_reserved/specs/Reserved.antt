@@ -22,7 +22,7 @@ reservationIn f total b = record { held = record { start = startOf (tc f); total
 abbrev pub reservationOf : ℕ → Bool → PusTcCreatorWithReservedAppData
 reservationOf = reservationIn formC
 
--- reserving n octets in a buffer of m: 32, 7, 6 for the machine size, 1, 6 for the packet limit, 3
+-- reserving n octets in a buffer of m: 32, 19, 7, 6 for the machine size, 1, 6 for the packet limit, 3
 abbrev pub reserveIn : TcForm → SpacePacketHeader → PusTcSecondaryHeader → ℕ → Bool → ℕ → Answer PusTcCreatorWithReservedAppData
 reserveIn f h x n b m = reserveBy (commandIn f) h x b n m then λ total. gives (reservationIn f total b)
 

@@ -69,7 +69,7 @@ impl PusTcCreatorWithReservedAppData {
         )
     }
 
-    // Writes the octets before the data; 32, 7, 6 for the machine size, 1, 6 for the packet limit, 3.
+    // Writes the octets before the data; 32, 19, 7, 6 for the machine size, 1, 6 for the packet limit, 3.
     pub fn new_in(
         form: TcForm,
         buf: &mut [u8],

@@ -71,7 +71,7 @@ stepIn f = stepBy (strictIn f)
 abbrev pub walkIn : TcForm → List ℕ → List Piece
 walkIn f = wholeBy (strictIn f)
 
--- of PUS C
+-- of PUS C with no spare octets
 abbrev pub stepOf : List ℕ → ℕ → Next
 stepOf = stepIn formC
 

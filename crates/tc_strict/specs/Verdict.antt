@@ -13,11 +13,11 @@ use Rattle.tc_read.specs.declared.PusTcRecord.{PusTcRecord}
 use Rattle.tc_strict.specs.declared.Verdict.{Verdict}
 use Rattle.tc_strict.specs.declared.Verdict.the-variants.{Accepted, Refused}
 
--- the form, all reader checks with checksum, then packet version number, type, secondary header flag, PUS version, APID
+-- the form, all reader checks with checksum, then packet version number, type, secondary header flag, PUS version, APID, spare octets
 unfoldable pub strictIn : TcForm → List ℕ → Answer PusTcRecord
 strictIn f s = formCheck f then λ _. judge (tc f) s then λ _. gives (recordIn f s true (statedOf s))
 
--- of PUS C
+-- of PUS C with no spare octets
 abbrev pub strictOf : List ℕ → Answer PusTcRecord
 strictOf = strictIn formC
 

@@ -23,7 +23,7 @@ pub fn judge(s: &[u8]) -> Verdict
     judge_in(TcForm::PUS_C, s)
 }
 
-// The same of a form, which is refused first.
+// The same of a form, which is refused first; last its spare octets, which are zeros.
 pub fn judge_in(form: TcForm, s: &[u8]) -> Verdict
     ensures { λ v. ⌜ verdictAnswer v ≡ strictIn form (now (s .entry)) ⌝ }
 {

@@ -1,5 +1,5 @@
 -- What a telecommand of any form owes as a writer, and what it hands to the calls that every kind shares.
-use Prim.Native.Nat.{ℕ}
+use Prim.Native.Nat.{ℕ, _≤_}
 use mathlib.Core.Path.{_≡_, _∙_}
 use mathlib.Core.List.{List}
 use native.Mathlib.Omega.{arith}
@@ -38,16 +38,18 @@ pub writer-laws-c : WriterLaws commandC
 writer-laws-c = writer-laws _ taken-c
 
 -- it hands over the octets l, as many of s as the form has, where writing the header left s in the room z for the longest
-module _ (f : TcForm) (x : PusTcSecondaryHeader) (z s l : List ℕ) (n : ℕ) (ez : length z ≡ 5) (es : length s ≡ 5)
+module _ (f : TcForm) (x : PusTcSecondaryHeader) (z s l : List ℕ) (n : ℕ) (ez : length z ≡ 9) (es : length s ≡ 9)
     (left : s ≡ leftBy (secWriteIn f x (length z)) (tcOctets f x) z) (en : n ≡ tc f .size) (el : l ≡ take n s) where
+  longest : formCheck f ≡ gives tt → tc f .size ≤ 9
+  longest good = let w = taken f good in omega (arith, w .at-most-two, w .at-most-four)
+
   passes : formCheck f ≡ gives tt → fieldsCheck f x ≡ gives tt → versionIn f (x .version) ≡ gives tt → secWriteIn f x (length z) ≡ gives (tc f .size)
   unfolding secWriteIn
   passes good p v =
-      let h = taken f good .at-most-two in
-      let room = refuse-no _ _ _ (le-ltb (length z) (tc f .size) (omega arith)) in
+      let room = refuse-no _ _ _ (le-ltb (length z) (tc f .size) (omega (arith, longest good))) in
       gives-then _ _ tt (checks-version f x (length z) _ (gives-then _ _ tt good ∙ p) room ∙ v)
 
   pub hands : (a : Asks) → asksAnswer a ≡ askedOf (commandIn f) x → Hands (commandIn f) x a l
   hands =
-      hands-by (commandIn f) x z s l n _ (λ good. let h = taken f good .at-most-two in omega arith) (λ good. length-octets f good x)
+      hands-by (commandIn f) x z s l n _ (λ good. omega (arith, longest good)) (λ good. length-octets f good x)
       passes left en el

@@ -26,9 +26,9 @@ same-version v w = (λ p. version-told v w (eqb-true _ _ p), λ e. eq-eqb _ _ (a
 pub same-form : (f g : TcForm) → (sameForm f g ≡ true) ↔ (f ≡ g)
 unfolding sameForm
 same-form f g =
-    let k = both _ _ (same-version (f .version) (g .version)) (same-number (f .«source_width») (g .«source_width»)) in (
-      λ p. let e = k .0 p in λ i. record { version = e .0 i; «source_width» = e .1 i },
-      λ e. k .1 (ap (λ (z : TcForm). z .version) e, ap (λ (z : TcForm). z .«source_width») e),
+    let k = both _ _ (same-version (f .version) (g .version)) (both _ _ (same-number (f .«source_width») (g .«source_width»)) (same-number (f .«spare_len») (g .«spare_len»))) in (
+      λ p. let e = k .0 p in λ i. record { version = e .0 i; «source_width» = e .1 .0 i; «spare_len» = e .1 .1 i },
+      λ e. k .1 (λ i. e i .version, (λ i. e i .«source_width», λ i. e i .«spare_len»)),
     )
 
 module _ (t : PusTcCreator) (d : List ℕ) (u : PusTcCreator) (e : List ℕ) where

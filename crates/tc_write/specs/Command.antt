@@ -5,7 +5,7 @@ use Rattle.tc_header.specs.Header.{versionIn, fieldsCheck, tc}
 use Rattle.tc_header.specs.declared.PusTcSecondaryHeader.{PusTcSecondaryHeader}
 use Rattle.tc_header.specs.declared.TcForm.{TcForm}
 
--- they ask 32 before all others, 7 for the acknowledgement flags and then the source ID, and 3 after the room
+-- they ask 32 and 19 before all others, 7 for the acknowledgement flags and then the source ID, and 3 after the room
 abbrev pub commandIn : TcForm → Writer PusTcSecondaryHeader
 commandIn f = record {
   kind = tc f;

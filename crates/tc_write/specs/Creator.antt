@@ -40,7 +40,7 @@ octetsFor t d = octetsBy (commandIn (t .form)) (t .«sp_header») (t .«sec_head
 
 -- ---- the calls
 
--- construction: 32, 7, and 6 where it sets the length
+-- construction: 32, 19, 7, and 6 where it sets the length
 abbrev pub newIn : TcForm → SpacePacketHeader → PusTcSecondaryHeader → ℕ → CreatorConfig → Answer PusTcCreator
 newIn f h x n config =
     newBy (commandIn f) h x (config .«has_checksum») (config .«set_ccsds_len») n
@@ -63,11 +63,11 @@ withHeader t h = creatorIn (t .form) h (t .«sec_header») (t .«has_checksum»)
 abbrev pub withSec : PusTcCreator → PusTcSecondaryHeader → PusTcCreator
 withSec t x = creatorIn (t .form) (t .«sp_header») x (t .«has_checksum»)
 
--- update_ccsds_data_len: 32, 7, 6
+-- update_ccsds_data_len: 32, 19, 7, 6
 abbrev pub updated : PusTcCreator → ℕ → Kept PusTcCreator
 updated t n = keptBy (withHeader t) (afreshBy (commandIn (t .form)) (t .«sp_header») (t .«sec_header») (t .«has_checksum») n)
 
--- the checksum over all octets before it: 32, 7, 3
+-- the checksum over all octets before it: 32, 19, 7, 3
 abbrev pub ownChecksum : PusTcCreator → List ℕ → Answer ℕ
 ownChecksum t d = ownBy (commandIn (t .form)) (t .«sp_header») (t .«sec_header») d
 
@@ -75,7 +75,7 @@ ownChecksum t d = ownBy (commandIn (t .form)) (t .«sp_header») (t .«sec_heade
 abbrev pub checksumOf : PusTcCreator → List ℕ → Answer Crc16
 checksumOf t d = checksumWith (t .«has_checksum») (ownChecksum t d)
 
--- writing into a buffer of m octets: 32, 7, 6 for the machine size, 1, 3
+-- writing into a buffer of m octets: 32, 19, 7, 6 for the machine size, 1, 3
 abbrev pub writeOf : PusTcCreator → ℕ → ℕ → Answer ℕ
 writeOf t n m = writeBy (commandIn (t .form)) (t .«sp_header») (t .«sec_header») (t .«has_checksum») n m
 

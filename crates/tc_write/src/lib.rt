@@ -46,7 +46,7 @@ pub use tc_header::PUS_TC_MIN_LEN_WITHOUT_APP_DATA;
 pub use tc_header::PusTcSecondaryHeader;
 pub use tc_header::TcForm;
 
-// What writers ask of the form and the secondary header: 32 before all others, 7, and 3 after the room.
+// What writers ask of the form and the secondary header: 32 and 19 before all others, 7, and 3 after the room.
 pub fn asks(form: TcForm, sec_header: PusTcSecondaryHeader) -> Asks
     ensures { λ r. ⌜ asksAnswer r ≡ askedOf (commandIn form) «sec_header» ⌝ }
 {
@@ -132,7 +132,7 @@ impl PusTcCreator {
         )
     }
 
-    // 32, 7, 6.
+    // 32, 19, 7, 6.
     pub fn new_in(
         form: TcForm,
         sp_header: SpHeader,
@@ -485,7 +485,7 @@ impl PusTcCreator {
         self.kept_if(form.check_source_id(source_id), self.with_sec(x))
     }
 
-    // Sets the length field afresh for this data; 32, 7, 6.
+    // Sets the length field afresh for this data; 32, 19, 7, 6.
     pub fn update_ccsds_data_len(self, app_data: &[u8]) -> PusTcCreatorSet
         ensures { λ r. ⌜ creatorKept r ≡ updated self (length (now («app_data» .entry))) ⌝ }
     {
@@ -518,7 +518,7 @@ impl PusTcCreator {
 
     // ---- octets
 
-    // The length of the packet, its checksum included; 32, 6.
+    // The length of the packet, its checksum included; 32, 19, 6.
     pub fn len_written(self, app_data: &[u8]) -> SizeResult
         ensures { λ r. ⌜ sizeAnswer r ≡ (formCheck (self .form) then λ _. machineTotal (startOf (tc (self .form))) (self .«has_checksum») (length (now («app_data» .entry)))) ⌝ }
     {
@@ -534,7 +534,7 @@ impl PusTcCreator {
         )
     }
 
-    // The checksum over the headers and the data; 32, 7, 3.
+    // The checksum over the headers and the data; 32, 19, 7, 3.
     pub fn calc_own_crc16(self, app_data: &[u8]) -> CrcResult
         ensures { λ r. ⌜ crcAnswer r ≡ ownChecksum self (now («app_data» .entry)) ⌝ }
     {
@@ -552,7 +552,7 @@ impl PusTcCreator {
         self.calc_own_crc16(app_data)
     }
 
-    // The name of the trait PusPacket: none where no checksum is written, and otherwise the packet's own; 32, 7, 3.
+    // The name of the trait PusPacket: none where no checksum is written, and otherwise the packet's own; 32, 19, 7, 3.
     pub fn checksum(self, app_data: &[u8]) -> ChecksumResult
         ensures { λ r. ⌜ checksumAnswer r ≡ checksumOf self (now («app_data» .entry)) ⌝ }
     {
@@ -562,7 +562,7 @@ impl PusTcCreator {
         packet::checksum_of(self.calc_own_crc16(app_data))
     }
 
-    // Writes the packet over the first octets of the buffer and answers how many; 32, 7, 6, 1, 3. No write takes a table for
+    // Writes the packet over the first octets of the buffer and answers how many; 32, 19, 7, 6, 1, 3. No write takes a table for
     // its checksum, whatever its name: without one is faster at every length of a packet.
     pub fn write_to_slice(self, app_data: &[u8], buf: &mut [u8]) -> SizeResult
         ensures { λ r. ⌜ PacketWrote self (now («app_data» .entry)) (now (buf .entry)) r (now (buf .exit)) ⌝ }
@@ -661,7 +661,7 @@ impl PusTcBuilder {
         PusTcBuilder::defaults(TcForm::PUS_C)
     }
 
-    // 32.
+    // 32, 19.
     pub fn new_in(form: TcForm) -> PusTcBuilderResult
         ensures { λ r. ⌜ builderAnswer r ≡ (formCheck form then λ _. gives (builderIn form)) ⌝ }
     {
@@ -772,7 +772,7 @@ impl PusTcBuilder {
         PusTcBuilder(t)
     }
 
-    // The creator of this data, with its length set; 32, 7, 6.
+    // The creator of this data, with its length set; 32, 19, 7, 6.
     pub fn build(self, app_data: &[u8]) -> PusTcCreatorResult
         ensures { λ r. ⌜ creatorAnswer r ≡ newIn (self .0 .form) (self .0 .«sp_header») (self .0 .«sec_header») (length (now («app_data» .entry))) (record { «set_ccsds_len» = true; «has_checksum» = self .0 .«has_checksum» }) ⌝ }
     {

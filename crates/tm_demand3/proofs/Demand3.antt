@@ -14,7 +14,7 @@ use Rattle.space_packet.specs.declared.SpacePacketHeader.{SpacePacketHeader}
 use Rattle.space_packet.specs.declared.SizeResult.{SizeResult}
 use Rattle.space_packet.proofs.Answers.{gives-inj, gives-then, then-gives, refuses-then}
 use Rattle.ecss.specs.Frame.{Octets, statedOf, Told}
-use Rattle.ecss.specs.Kind.{Rules, BeginsWith, asIdle, packetOf, judge}
+use Rattle.ecss.specs.Kind.{Rules, BeginsWith, asIdle, startOf, packetOf, judge}
 use Rattle.ecss.specs.Version.{defaultConfig}
 use Rattle.ecss.specs.declared.PusVersion.the-variants.{PusC}
 use Rattle.ecss.proofs.Versions.{version-passes}
@@ -180,14 +180,22 @@ never-both t f s r q a b =
     let e = ap typeNumber (Any.one-type (tm t) (tc f) s (m .0) (c .0) (m .1) (c .1)) in
     omega (arith, e)
 
--- Telemetry that is accepted is refused with 10 as a telecommand of each form that is taken.
-pub as-command : (t : ℕ) (f : TcForm) (s : List ℕ) (r : PusTmRecord) → formCheck f ≡ gives tt → strictIn t s ≡ gives r → Tc.strictIn f s ≡ refuses (refusal 10 [])
+-- Telemetry that is accepted is refused with 10 as a telecommand of each form that is taken, where its total has room for that form's
+-- headers and checksum,
+pub as-command : (t : ℕ) (f : TcForm) (s : List ℕ) (r : PusTmRecord) → formCheck f ≡ gives tt → strictIn t s ≡ gives r → startOf (tc f) + 2 ≤ statedOf s
+    → Tc.strictIn f s ≡ refuses (refusal 10 [])
 unfolding strictIn Tc.strictIn
-as-command t f s r taken-f a =
+as-command t f s r taken-f a room =
+    let m = then-gives (judge (tm t) s) _ r (then-gives (timeLimit t) _ r a .2) in
+    gives-then _ _ tt taken-f ∙ refuses-then _ _ _ (Any.other-refused (tm t) (tc f) s (m .0) (m .1) room (λ e. omega (arith, e)))
+
+-- as it has for each that has at most two spare octets more than the time has.
+pub command-room : (t : ℕ) (f : TcForm) (s : List ℕ) (r : PusTmRecord) → formCheck f ≡ gives tt → f .«spare_len» ≤ 2 + t → strictIn t s ≡ gives r → startOf (tc f) + 2 ≤ statedOf s
+unfolding strictIn
+command-room t f s r taken-f few a =
     let m = then-gives (judge (tm t) s) _ r (then-gives (timeLimit t) _ r a .2) in
     let w = taken f taken-f .at-most-two in
-    let n = accepted (tm t) s (m .0) (m .1) .frame .room in
-    gives-then _ _ tt taken-f ∙ refuses-then _ _ _ (Any.other-refused (tm t) (tc f) s (m .0) (m .1) (omega (arith, n)) (λ e. omega (arith, e)))
+    let n = accepted (tm t) s (m .0) (m .1) .frame .room in omega (arith, n)
 
 -- A telecommand that is accepted is refused with 13 as telemetry, where its total has room for telemetry's headers and checksum.
 pub as-telemetry : (t : ℕ) (f : TcForm) (s : List ℕ) (r : PusTcRecord) → timeLimit t ≡ gives tt → Tc.strictIn f s ≡ gives r → startIn t + 2 ≤ statedOf s

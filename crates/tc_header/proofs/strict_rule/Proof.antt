@@ -1,30 +1,25 @@
--- `tc_header::strict_rule` meets its contract: a telecommand asks nothing besides what every kind shares.
-use Prim.Native.Nat.{ℕ}
-use mathlib.Core.Path.{sym, ap₂, _∙_}
-use mathlib.Core.List.{[]}
-use Rattle.space_packet.specs.Answer.{refusal}
-use Rattle.space_packet.specs.declared.PacketType.the-variants.{Tc}
-use Rattle.space_packet.proofs.Answers.{then-same}
-use Rattle.ecss.specs.Kind.{pusRule, strictRule}
+-- `tc_header::strict_rule` meets its contract: what every kind shares, then the spare octets.
+use mathlib.Core.Path.{ap₂, _∙_}
+use Rattle.space_packet.specs.Answer.{Passed, _then_}
+use Rattle.ecss.specs.Kind.{strictRule}
 use borrow.Author.Needs.{needs}
 use Rattle.tc_header.proofs.strict_rule.Statement.{statement}
 use Rattle.tc_header.proofs.strict_rule.Tie as tie
 
-raw-value-requires : tie.Need-raw-value-requires
-raw-value-requires c κs = search needs
+shared-rule-requires : tie.Need-shared-rule-requires
+shared-rule-requires c κs = search needs
 
-octet-at-requires : tie.Need-octet-at-requires
-octet-at-requires c κs = search needs
+check-spare-requires : tie.Need-check-spare-requires
+check-spare-requires c κs = search needs
 
-pus-rule-requires : tie.Need-pus-rule-requires
-pus-rule-requires c κs = search needs
+first-refusal-requires : tie.Need-first-refusal-requires
+first-refusal-requires c κs = search needs
 
 returns : tie.Need-returns
 unfolding strictRule
-returns c = let a = c .before .before .before .before .args in
-    c .pus-rule .ensures ∙ ap₂ (λ (v o : ℕ). pusRule Tc (refusal 10 []) v (a .h) o) (c .before .before .raw-value .ensures) (c .before .octet-at .ensures)
-    ∙ sym (then-same _)
+returns c = c .first-refusal .ensures ∙ ap₂ (λ (p q : Passed). p then λ _. q) (c .before .before .shared-rule .ensures) (c .before .check-spare .ensures)
 
 pub strict-rule-spec : {M : Type 1} → statement M
 strict-rule-spec =
-    tie.close (tie.spec raw-value-requires octet-at-requires pus-rule-requires returns)
+    tie.close
+    (tie.spec shared-rule-requires check-spare-requires first-refusal-requires returns)

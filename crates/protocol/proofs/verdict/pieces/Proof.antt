@@ -4,10 +4,10 @@ use Rattle.protocol.proofs.verdict.pieces.Statement.{statement}
 use Rattle.protocol.proofs.verdict.pieces.Tie as tie
 
 abbrev Inv-loop : tie.InvT-loop
-Inv-loop s from₀ turns₀ from turns = Unit {0}
+Inv-loop form s from₀ turns₀ from turns = Unit {0}
 
 abbrev μ-loop : tie.MeasureT-loop
-μ-loop s from₀ turns₀ from turns = turns
+μ-loop form s from₀ turns₀ from turns = turns
 
 loop-holds : tie.Need-loop-holds Inv-loop μ-loop
 loop-holds c = search needs

@@ -130,6 +130,18 @@ enum-told-11 c = search needs
 in-numbers-requires-16 : tie.Need-in-numbers-requires-16
 in-numbers-requires-16 c κs = search needs
 
+enum-told-12 : tie.Need-enum-told-12
+enum-told-12 c = search needs
+
+in-numbers-requires-17 : tie.Need-in-numbers-requires-17
+in-numbers-requires-17 c κs = search needs
+
+enum-told-13 : tie.Need-enum-told-13
+enum-told-13 c = search needs
+
+in-numbers-requires-18 : tie.Need-in-numbers-requires-18
+in-numbers-requires-18 c κs = search needs
+
 returns : tie.Need-returns
 returns c = told (c .numbers .ensures) (c .before .before .self .given .1)
 
@@ -181,6 +193,12 @@ returns-16 c = told (c .in-numbers15 .ensures) (c .before .enum-told10 .given .1
 returns-17 : tie.Need-returns-17
 returns-17 c = told (c .in-numbers16 .ensures) (c .before .enum-told11 .given .1)
 
+returns-18 : tie.Need-returns-18
+returns-18 c = told (c .in-numbers17 .ensures) (c .before .enum-told12 .given .1)
+
+returns-19 : tie.Need-returns-19
+returns-19 c = told (c .in-numbers18 .ensures) (c .before .enum-told13 .given .1)
+
 pub numbers-spec : {M : Type 1} → statement M
 numbers-spec =
     tie.close
@@ -225,6 +243,10 @@ numbers-spec =
     in-numbers-requires-15
     enum-told-11
     in-numbers-requires-16
+    enum-told-12
+    in-numbers-requires-17
+    enum-told-13
+    in-numbers-requires-18
     returns
     returns-2
     returns-3
@@ -241,4 +263,6 @@ numbers-spec =
     returns-14
     returns-15
     returns-16
-    returns-17)
+    returns-17
+    returns-18
+    returns-19)

@@ -1,8 +1,10 @@
--- `PusTcSecondaryHeader::put` meets its contract: three octets, and the source ID behind them.
+-- `PusTcSecondaryHeader::put` meets its contract: three octets, the source ID behind them, and the spare octets behind that.
 use mathlib.Core.Path.{refl, _∙_}
-use Rattle.tc_header.specs.Form.{sourceLen}
+use native.Mathlib.Omega.{arith}
+use Rattle.tc_header.specs.Form.{sourceLen, spareAt}
 use Rattle.tc_header.specs.Header.{firstOctets, tcOctets}
-use Rattle.tc_header.proofs.Forms.{behind-three}
+use Rattle.tc_header.proofs.Forms.{behind}
+use Rattle.tc_header.proofs.Laws.{before, length-before}
 use borrow.Author.Needs.{needs}
 use Rattle.tc_header.proofs.PusTcSecondaryHeader.put.Statement.{statement}
 use Rattle.tc_header.proofs.PusTcSecondaryHeader.put.Tie as tie
@@ -13,14 +15,22 @@ put-first-requires c κs = search needs
 put-source-requires : tie.Need-put-source-requires
 put-source-requires c κs = search needs
 
+put-spare-requires : tie.Need-put-spare-requires
+put-spare-requires c κs = search needs
+
 same-length : tie.Need-same-length
 same-length c = search needs
 
 returns : tie.Need-returns
 unfolding tcOctets
-returns c = let a = c .before .before .before .before .before .before .before .before .before .args in
-    c .before .before .put-source .ensures
-    ∙ behind-three (sourceLen (a .form)) (a .buf .now) _ (firstOctets (a .self)) _ refl (c .before .before .before .before .before .before .put-first .ensures)
+returns c =
+    let a = c .before .before .before .before .before .before .before .before .before .before .before .before .before .args in
+    let first = c .before .before .before .before .before .before .before .before .before .before .put-first .ensures in
+    let source = c .before .before .before .before .before .before .put-source .ensures ∙ behind 3 (sourceLen (a .form)) (a .buf .now) _ (firstOctets (a .self)) _ refl first in
+    c .before .before .put-spare .ensures
+    ∙ behind (spareAt (a .form)) _ (a .buf .now) _ (before (a .form) (a .self)) _ (length-before (a .form) (a .self) (omega arith)) source
 
 pub put-spec : {M : Type 1} → statement M
-put-spec = tie.close (tie.spec put-first-requires put-source-requires same-length returns)
+put-spec =
+    tie.close
+    (tie.spec put-first-requires put-source-requires put-spare-requires same-length returns)

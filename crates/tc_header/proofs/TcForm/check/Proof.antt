@@ -1,23 +1,25 @@
--- `TcForm::check` meets its contract: each of the three widths passes, and what is none of them is refused.
-use mathlib.Core.Path.{sym, ap}
-use mathlib.Core.Bool.{_||_}
-use borrow.Author.Tests.{ne-eqb}
-use Rattle.tc_header.specs.Form.{isWidth}
-use Rattle.tc_header.proofs.Forms.{form-passes, form-refused}
+-- `TcForm::check` meets its contract: the width, then the spare length.
+use mathlib.Core.Path.{sym, _∙_}
+use borrow.Author.Tests.{not-true, not-false}
+use Rattle.tc_header.proofs.Forms.{form-passes, width-refused, spare-refused}
+use borrow.Author.Needs.{needs}
 use Rattle.tc_header.proofs.TcForm.check.Statement.{statement}
 use Rattle.tc_header.proofs.TcForm.check.Tie as tie
 
+is-width-requires : tie.Need-is-width-requires
+is-width-requires c κs = search needs
+
 returns : tie.Need-returns
-returns c = sym (form-passes _ (ap isWidth (c .if1 .taken)))
+returns c = sym (width-refused _ (sym (c .before .is-width .ensures) ∙ not-true (c .before .is-width .result) (c .if1 .taken)))
+
+cast-if2 : tie.Need-cast-if2
+cast-if2 c = search needs
 
 returns-2 : tie.Need-returns-2
-returns-2 c = sym (form-passes _ (ap isWidth (c .if2 .taken)))
+returns-2 c = sym (spare-refused _ (sym (c .before .before .before .is-width .ensures) ∙ not-false (c .before .before .before .is-width .result) (c .before .before .if1 .left)) (c .if2 .taken))
 
 returns-3 : tie.Need-returns-3
-returns-3 c = sym (form-passes _ (ap isWidth (c .if3 .taken)))
-
-returns-4 : tie.Need-returns-4
-returns-4 c = sym (form-refused _ (λ i. ne-eqb _ 16 (c .before .before .if1 .left) i || (ne-eqb _ 8 (c .before .if2 .left) i || ne-eqb _ 0 (c .if3 .left) i)))
+returns-3 c = sym (form-passes _ (sym (c .before .before .before .is-width .ensures) ∙ not-false (c .before .before .before .is-width .result) (c .before .before .if1 .left)) (c .if2 .left))
 
 pub check-spec : {M : Type 1} → statement M
-check-spec = tie.close (tie.spec returns returns-2 returns-3 returns-4)
+check-spec = tie.close (tie.spec is-width-requires returns cast-if2 returns-2 returns-3)

@@ -1,4 +1,4 @@
--- `TcForm::eq` meets its contract: the versions are tested by their numbers, and the widths.
+-- `TcForm::eq` meets its contract: the versions are tested by their numbers, then the widths and the spare lengths.
 use Rattle.tc_header.specs.Form.{sameForm}
 use borrow.Author.Needs.{needs}
 use Rattle.tc_header.proofs.TcForm.eq.Statement.{statement}
@@ -12,7 +12,7 @@ raw-value-requires-2 c κs = search needs
 
 returns : tie.Need-returns
 unfolding sameForm
-returns c = simp (c .before .before .before .raw-value .ensures, c .before .before .raw-value2 .ensures)
+returns c = simp (c .before .before .before .before .before .raw-value .ensures, c .before .before .before .before .raw-value2 .ensures)
 
 pub eq-spec : {M : Type 1} → statement M
 eq-spec = tie.close (tie.spec raw-value-requires raw-value-requires-2 returns)

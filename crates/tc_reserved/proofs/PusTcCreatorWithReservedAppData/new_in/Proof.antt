@@ -50,7 +50,7 @@ returns c =
     let a = w .before .before .before .before .args in
     let v = commandIn (a .form) in
     let o =
-    hands (a .form) (a .sec-header) (replicate 5 0) _ _ _ refl (omega arith) (w .write-to-slice-in .ensures .left)
+    hands (a .form) (a .sec-header) (replicate 9 0) _ _ _ refl (omega arith) (w .write-to-slice-in .ensures .left)
     (f .before .sec-header-len .ensures) (f .front .ensures) (k .asks .result) (k .asks .ensures) in
     let header = w .before .before .as-type .ensures in
     let made = c .before .before .before .reserve .ensures in

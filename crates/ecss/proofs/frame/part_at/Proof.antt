@@ -1,4 +1,4 @@
--- `ecss::frame::sec_header_part` meets its contract: the octets behind the primary header, up to the secondary header's size.
+-- `frame::part_at` meets its contract: the octets behind the first `at`, up to n of them.
 use Prim.Native.Nat.{_-_}
 use mathlib.Core.Path.{sym, ap, _∙_}
 use native.Mathlib.Omega.{arith}
@@ -6,14 +6,14 @@ use lib.ListN.{length, take, drop, length-drop}
 use lib.Seq.{take-all}
 use Rattle.ecss.proofs.Frames.{none-left}
 use borrow.Author.Needs.{needs}
-use Rattle.ecss.proofs.frame.sec_header_part.Statement.{statement}
-use Rattle.ecss.proofs.frame.sec_header_part.Tie as tie
+use Rattle.ecss.proofs.frame.part_at.Statement.{statement}
+use Rattle.ecss.proofs.frame.part_at.Tie as tie
 
 slice-aggregate-result : tie.Need-slice-aggregate-result
 slice-aggregate-result c = search needs
 
 returns : tie.Need-returns
-returns c = let a = c .before .before .before .args in sym (none-left (a .size) (a .packet .now) (c .before .if1 .taken))
+returns c = let a = c .before .before .before .args in sym (none-left (a .at) (a .n) (a .s .now) (c .before .if1 .taken))
 
 sub-front : tie.Need-sub-front
 sub-front c = search needs
@@ -29,9 +29,9 @@ front-requires c κs = search needs
 
 returns-2 : tie.Need-returns-2
 returns-2 c = let a = c .before .before .before .before .args in
-    c .front .ensures ∙ ap (take (a .size)) (take-all (length (a .packet .now) - 6) (drop 6 (a .packet .now)) (omega (arith, length-drop 6 (a .packet .now))))
+    c .front .ensures ∙ ap (take (a .n)) (take-all (length (a .s .now) - a .at) (drop (a .at) (a .s .now)) (omega (arith, length-drop (a .at) (a .s .now))))
 
-pub sec-header-part-spec : {M : Type 1} → statement M
-sec-header-part-spec =
+pub part-at-spec : {M : Type 1} → statement M
+part-at-spec =
     tie.close
     (tie.spec slice-aggregate-result returns sub-front part-front-start part-front-end front-requires returns-2)
