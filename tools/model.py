@@ -4,7 +4,7 @@
 It speaks the protocol of docs/PROTOCOL.md, one request a line in and one answer a line out, and was written from the
 layout, the table of refusals and the orders of refusals, without a look at the port or at the crate. The checksum is
 Python's own, binascii.crc_hqx. Unlike the crate it also has an answer outside the domain of equality (a field over its
-width, a version other than C, a total above 65,542 octets), to `strict`, `split`, `track` and `best`, and to requests in
+width, a version other than C, a total above 65,542 octets), to `strict`, `split`, `track`, `best`, `params` and `wparams`, and to requests in
 PUS A, with spare octets and of telemetry. What is open it works out from all calls so far, each time anew.
 
     tools/model.py <requests >answers
@@ -487,6 +487,84 @@ def best(time_len, *captures):
     return ['neither', *refusals, '-']
 
 
+# Parameter values, and the set request of service 20, subtype 3.
+
+INTEGERS = {4: 1, 12: 2, 13: 3, 14: 4, 15: 6, 16: 8}      # the octets of an integer by its PFC
+REALS = {1: ('f', 4), 2: ('d', 8)}                        # the letter and the octets of a real
+MOST_PAIRS = 255
+
+
+def kind_of(ptc, pfc):
+    """The letter of a type's values and their octets; none for a type that is not named."""
+    if ptc == 5:
+        return REALS.get(pfc)
+    if ptc in (3, 4) and pfc in INTEGERS:
+        return 'us'[ptc - 3], INTEGERS[pfc]
+    return None
+
+
+def checked_list(rows):
+    """21: not strictly rising, or a type that is not named."""
+    rising = all(a[0] < b[0] for a, b in zip(rows, rows[1:]))
+    types = {row[0]: kind_of(*row[1:]) for row in rows}
+    refuse_if(not rising or None in types.values(), 21)
+    return types
+
+
+def engineering(letter, octets):
+    if letter in 'us':
+        return int.from_bytes(octets, 'big', signed=letter == 's')
+    return text(octets)
+
+
+def params(rows, data):
+    types = checked_list(rows)
+
+    def up_to_octet(end):
+        refuse_if(len(data) < end, 2, len(data), end)
+        return end
+
+    at, words = up_to_octet(1), []
+    for _ in range(data[0]):
+        start = up_to_octet(at + 2)
+        number = int.from_bytes(data[at:start], 'big')
+        refuse_if(number not in types, 22)
+        letter, size = types[number]
+        at = up_to_octet(start + size)
+        words.append(f'{number}={letter}:{engineering(letter, data[start:at])}')
+    refuse_if(at < len(data), 23)
+    return ['ok', len(words), *words]
+
+
+def value_octets(kind, letter, value):
+    """24: a value of another kind, or over its width."""
+    refuse_if(kind[0] != letter, 24)
+    if letter in 'fd':
+        return value
+    try:
+        return value.to_bytes(kind[1], 'big', signed=letter == 's')
+    except OverflowError:
+        raise Refused(24) from None
+
+
+def set_request(rows, pairs_set):
+    """The application data. A record holds the first 255 pairs, and how many there were."""
+    types, held = checked_list(rows), pairs_set[:MOST_PAIRS]
+    refuse_if(any(number not in types for number, _, _ in held), 22)
+    refuse_if(len(pairs_set) > MOST_PAIRS, 24)
+    written = [number.to_bytes(2, 'big') + value_octets(types[number], letter, value) for number, letter, value in held]
+    return b''.join([bytes([len(held)]), *written])
+
+
+def wparams(rows, pairs_set, buffer):
+    try:
+        octets = set_request(rows, pairs_set)
+        refuse_if(len(buffer) < len(octets), 1, len(buffer), len(octets))
+    except Refused as refusal:
+        return [refusal, text(buffer)]
+    return [f'ok:{len(octets)}', text(octets + buffer[len(octets):])]
+
+
 # The words of the protocol.
 
 def text(octets):
@@ -563,6 +641,45 @@ def CALLS(word):
             raise BadRequest
         calls.append((letter, octets_of(octets)))
     return calls
+
+
+def LIST(word):
+    """Rows `ID,PTC,PFC` with `;` between, at most 256 of them; `-` for none."""
+    rows = [row_of(U16, U16, U16)(item) for item in ([] if word == '-' else word.split(';'))]
+    if len(rows) > 256:
+        raise BadRequest
+    return rows
+
+
+def signed(word):
+    """A number with its sign, of 64 bits."""
+    size = up_to(2**63)(word.removeprefix('-'))
+    value = -size if word.startswith('-') else size
+    if value == 2**63:
+        raise BadRequest
+    return value
+
+
+def pattern(size):
+    def read(word):
+        octets = octets_of(word)
+        if len(octets) != size:
+            raise BadRequest
+        return octets
+    return read
+
+
+def PAIRS(word):
+    """`ID=u:N`, `ID=s:N`, `ID=f:` and eight digits, `ID=d:` and sixteen, with `;` between; `-` for none."""
+    values = {'u': U64, 's': signed, 'f': pattern(4), 'd': pattern(8)}
+    made = []
+    for item in [] if word == '-' else word.split(';'):
+        number, equals, said = item.partition('=')
+        letter, colon, value = said.partition(':')
+        if not equals or not colon or letter not in values:
+            raise BadRequest
+        made.append((U16(number), letter, values[letter](value)))
+    return made
 
 
 U8, U16, U64 = up_to(255), up_to(65535), up_to(MACHINE)
@@ -707,6 +824,8 @@ REQUESTS = {
     'split': (split, [DATA]),
     'track': (track, [U8, CALLS]),
     'best': (best, [U8, DATA, DATA]),
+    'params': (params, [LIST, DATA]),
+    'wparams': (wparams, [LIST, PAIRS, DATA]),
 }
 IN_PUS_A = {kind: REQUESTS[kind] for kind in ('read', 'create', 'build', 'strict')}
 IN_PUS_C = IN_PUS_A | {kind: REQUESTS[kind] for kind in ('reserve', 'split', 'cmprc', 'cmprr')}

@@ -19,6 +19,8 @@ out at every run.
              two packets that both pass, time lengths from 0 to 255, and the grammar of the fields
     spare    PUS C at each spare length: read, judged, created, built, reserved, compared and split, with each spare octet wrong,
              the largest packets, the same octets at every length, other lengths, and the grammar
+    params   set requests read and written: every width's edges, NaNs of each kind, zeros, infinities, data that end early
+             everywhere, the orders of refusals, faults of the list, 255 pairs, and the grammar of both
 
     tools/vectors.py FOLDER
 """
@@ -961,9 +963,159 @@ def spare_grammar():
     yield f'in c3 reserve {P5_SP} {P5_SEC} 0 1 - x -'
 
 
+# Rows of a list, one for each type that is named, and the edges of each.
+ROWS = [(4001 * place + 7, *code) for place, code in
+        enumerate([(ptc, pfc) for ptc in (3, 4) for pfc in model.INTEGERS] + [(5, 1), (5, 2)])]
+WHOLE = ';'.join(map(row, ROWS))
+SINGLES = ('00000000', '80000000', '3F800000', 'C0490FDB', '00000001', '807FFFFF', '007FFFFF', '00800000', '7F7FFFFF', '7F800000',
+           'FF800000',
+           '7F800001', 'FF800001', '7FBFFFFF', '7FC00000', 'FFC00000', '7FFFFFFF', 'FFFFFFFF', '7FA5A5A5')
+DOUBLES = ('0000000000000000', '8000000000000000', '3FF0000000000000', '0000000000000001', '800FFFFFFFFFFFFF',
+           '000FFFFFFFFFFFFF', '0010000000000000', '7FEFFFFFFFFFFFFF', '7FF0000000000000', 'FFF0000000000000', '7FF0000000000001', 'FFF0000000000001',
+           '7FF7FFFFFFFFFFFF', '7FF8000000000000', 'FFF8000000000000', '7FFFFFFFFFFFFFFF', 'FFFFFFFFFFFFFFFF',
+           '7FF5A5A5A5A5A5A5')
+
+
+def patterns(number):
+    """The edges of a type, as octets."""
+    letter, size = model.kind_of(*next(row[1:] for row in ROWS if row[0] == number))
+    if letter in 'fd':
+        return SINGLES if letter == 'f' else DOUBLES
+    half, top = 1 << 8 * size - 1, 1 << 8 * size
+    edges = dict.fromkeys((0, 1, 127, 128, 255, half - 1, half, half + 1, top - 2, top - 1))
+    return [f'{value:0{2 * size}X}' for value in edges]
+
+
+def pair_octets(number, pattern):
+    return f'{number:04X}{pattern}'
+
+
+def params_requests(rng):
+    yield from params_values()
+    yield from params_early()
+    yield from params_lists()
+    yield from params_written()
+    yield from (params_line(rng) for _ in range(200))
+    yield from params_grammar()
+
+
+def params_values():
+    """Each type at its edges, read; and the same written."""
+    yield from ('params - 00', f'params {WHOLE} 00', f'wparams {WHOLE} - 00', f'wparams {WHOLE} - -', 'wparams - - FFFF')
+    for number, *_ in ROWS:
+        for pattern in patterns(number):
+            data = f'01{pair_octets(number, pattern)}'
+            yield f'params {WHOLE} {data}'
+            said = model.answer(f'params {WHOLE} {data}').split(' ')[2]
+            yield f'wparams {WHOLE} {said} {"AA" * (len(data) // 2 + 1)}'
+    for number, ptc, pfc in ROWS:                          # beside its width, and of every other kind
+        letter, size = model.kind_of(ptc, pfc)
+        half, top = 1 << 8 * size - 1, 1 << 8 * size
+        values = {'u': (top - 1, top), 's': (half - 1, half, -half, -half - 1)}.get(letter, ())
+        for value in values:
+            if -2**63 <= value < 2**(64 if letter == 'u' else 63):
+                yield f'wparams {WHOLE} {number}={letter}:{value} {zeros(16)}'
+        for other in ('u:0', 's:0', 's:-1', 'f:3F800000', 'f:7FC00000', 'd:3FF0000000000000', 'd:7FF8000000000000'):
+            yield f'wparams {WHOLE} {number}={other} {zeros(16)}'
+
+
+def params_early():
+    """Data that end at each octet, and that go on."""
+    octet, _, _, _, _, eight, *_, single, _ = (number for number, *_ in ROWS)
+    both = '02' + pair_octets(octet, 'A5') + pair_octets(single, '7FA5A5A5')
+    for end in range(0, len(both) + 1, 2):
+        yield f'params {WHOLE} {both[:end] or "-"}'
+    yield from (f'params {WHOLE} {both}{more}' for more in ('00', '0007', 'FFFFFF'))
+    for number, *_ in ROWS:
+        data = '01' + pair_octets(number, patterns(number)[1])
+        yield from (f'params {WHOLE} {data[:end]}' for end in range(2, len(data), 2))
+    unknown, known = pair_octets(octet + 1, '00'), pair_octets(octet, '00')
+    for data in ('01' + unknown, '01' + unknown[:4], '01' + unknown[:2], '02' + known + unknown, '02' + unknown + known,
+                 '03' + known + unknown[:2], '02' + unknown, '02' + known, '02' + pair_octets(eight, '00'), '01' + unknown + '0000', '010000', '01FFFF',
+                 '02' + pair_octets(octet, '01') + pair_octets(octet, '02'), '00' + unknown, '0000'):
+        yield f'params {WHOLE} {data}'
+    many = ''.join(pair_octets(octet, f'{count % 256:02X}') for count in range(256))
+    for count in (254, 255):
+        yield f'params {WHOLE} {count:02X}{many[:6 * count]}'
+    yield f'params {WHOLE} FF{many}'
+    yield f'params {WHOLE} FF{many[:6 * 254]}'
+
+
+def params_lists():
+    """Lists that do not rise, and types that are not named; before anything in the data or the pairs."""
+    rows = ['5,3,4;5,3,4', '5,3,4;4,3,4', '4,3,4;5,3,4;5,3,12', '4,3,4;6,3,4;5,3,12', '0,3,4', '65535,3,4', '0,3,4;65535,4,16',
+            '0,3,4;1,3,4;2,3,4', '2,3,4;1,3,4;0,3,4', '1,3,4;0,5,2', '-']
+    for ptc, pfc in itertools.product((0, 1, 2, 3, 4, 5, 6, 255, 65535), (*range(18), 255, 65535)):
+        yield f'params 1,{ptc},{pfc} 00'
+    for listed in rows:
+        for data in ('00', '-', '010005', '0100010203040506070809', '010000FF', '01FFFF8000000000000000'):
+            yield f'params {listed} {data}'
+        for made in ('-', '1=u:1', '9=u:1', '1=f:7FC00000', '0=u:1', '65535=s:-1'):
+            yield f'wparams {listed} {made} 0000000000000000000000'
+
+
+def params_written():
+    """The order 21, 22, 24, 1, and buffers of each length."""
+    wrong = '5,3,4;4,3,4'
+    for listed, made in itertools.product((WHOLE, wrong), ('7=u:256', '8=u:0', '7=u:256;8=u:0', '8=u:0;7=u:256', '7=u:1', '7=u:1;4008=u:2',
+                                                           '7=s:1;8=u:0', '7=u:1;7=u:2', '24013=s:-1;7=u:0', '-')):
+        yield from (f'wparams {listed} {made} {zeros(size)}' for size in range(9))
+    some = ';'.join(f'7=u:{count % 256}' for count in range(300))
+    cut = some.split(';')
+    for count in (254, 255, 256, 257, 300):
+        for size in (764, 765, 766, 767, 1000):
+            yield f'wparams {WHOLE} {";".join(cut[:count])} {zeros(size)}'
+    yield f'wparams {WHOLE} {";".join(cut[:256])};8=u:0 {zeros(2)}'
+    yield f'wparams {WHOLE} 8=u:0;{";".join(cut[:255])} {zeros(2)}'
+    yield f'wparams {wrong} {";".join(cut[:256])} {zeros(2)}'
+
+
+def wrong_pair(rng, numbers):
+    number = rng.choice((rng.choice(numbers), rng.randrange(65536)))
+    return f'{number}={rng.choice(("u:70000", "s:-200", "f:FFC00001"))}'
+
+
+def params_line(rng):
+    """A request by chance: read, now and then cut or with an octet changed; or its pairs written."""
+    numbers = sorted(rng.sample(range(65536), rng.randint(1, 20)))
+    rows = [(number, *rng.choice(ROWS)[1:]) for number in numbers]
+    if rng.random() < 0.05:
+        rng.shuffle(rows)
+    listed, data = ';'.join(map(row, rows)), bytearray([0])
+    for _ in range(rng.choice((0, 1, 2, 5, rng.randint(0, 40)))):
+        number, ptc, pfc = rng.choice(rows)
+        data += number.to_bytes(2, 'big') + rng.randbytes(model.kind_of(ptc, pfc)[1])
+        data[0] += 1
+    said = model.answer(f'params {listed} {text(data)}').split(' ')
+    if rng.random() < 0.5 and said[0] == 'ok':
+        made = [pair if rng.random() < 0.97 else wrong_pair(rng, numbers) for pair in said[2:]]
+        return f'wparams {listed} {";".join(made) or "-"} {text(rng.randbytes(max(0, len(data) + rng.randint(-2, 3))))}'
+    if rng.random() < 0.4:
+        data = data[:rng.randrange(len(data) + 1)]
+    if data and rng.random() < 0.3:
+        data[rng.randrange(len(data))] = rng.randrange(256)
+    return f'params {listed} {text(data)}'
+
+
+def params_grammar():
+    yield from ('params', 'params ', 'params -', 'params - ', 'params - - -', 'params  - -', 'params - 0', 'params - 0g', 'wparams',
+                'wparams -', 'wparams - -', 'wparams - - - -', 'wparams - - 0', 'Params - 00', 'in a8 params - 00', 'in t7 wparams - - -')
+    for listed in (';', '1', '1,3', '1,3,4,', '1,3,4,5', ',3,4', '1,,4', '1,3,', '65536,3,4', '1,65536,4', '1,3,65536', '-1,3,4', '1,3,4;',
+                   ';1,3,4', '1,3,4;;2,3,4', '1.3.4', '01,03,04', '1,3,4;-', ';'.join(f'{count},3,4' for count in range(256)),
+                   ';'.join(f'{count},3,4' for count in range(257))):
+        yield f'params {listed} 00'
+        yield f'wparams {listed} - 00'
+    for made in (';', '7', '7=', '7=u', '7=u:', '7=u:x', '7=u:-1', '7=u:1:', '7=u:18446744073709551615', '7=u:18446744073709551616', '7=s:-',
+                 '7=s:--1', '7=s:+1', '7=s:9223372036854775807', '7=s:9223372036854775808', '7=s:-9223372036854775808',
+                 '7=s:-9223372036854775809', '7=s:-0', '7=f:', '7=f:0', '7=f:0000000', '7=f:000000000', '7=f:7fc00000', '7=f:-', '7=d:',
+                 '7=d:00000000', '7=d:0000000000000000', '7=d:00000000000000000', '7=x:0', '65536=u:0', '=u:0', 'u:0', '7:u=0', '7=u:0;',
+                 ';7=u:0', '7=u:0;;7=u:0', '-;7=u:0', '7=U:0', '07=u:00', '7=u:000000000000000000001', '7=u:00000000000000000001'):
+        yield f'wparams {WHOLE} {made} {zeros(12)}'
+
+
 FILES = {'crc': crc_requests, 'header': header_requests, 'write': write_requests, 'limits': limits_requests,
          'read': read_requests, 'strict': strict_requests, 'grammar': grammar_requests, 'pus_a': pus_a_requests,
-         'telemetry': telemetry_requests, 'track': track_requests, 'best': best_requests, 'spare': spare_requests}
+         'telemetry': telemetry_requests, 'track': track_requests, 'best': best_requests, 'spare': spare_requests, 'params': params_requests}
 
 
 def main():

@@ -1,7 +1,13 @@
-// A ping command at the desk: it is sent, reports on it come, and each time the desk is told what is open.
+// A ping command at the desk: it is sent, reports on it come, and each time the desk is told what is open. And a parameter command:
+// its data are written by their pairs, and read as such.
 use ecss::CreatorConfig;
 use ecss::MessageTypeId;
 use libc::STDOUT_FILENO;
+use param_value::Value;
+use params::Pair;
+use params::PairAt;
+use params::Params;
+use params::ParamsRead;
 use space_packet::CheckResult;
 use space_packet::SizeResult;
 use space_packet::SpHeader;
@@ -95,6 +101,83 @@ fn written(subtype: u8, data: &[u8], buf: &mut [u8]) -> usize {
     }
 }
 
+// ---- a parameter command
+
+// Sets an octet and a signed value of three; the third parameter is not set.
+fn set_parameters(command: &[u8]) {
+    let list = [[7u16, 3, 4], [8, 4, 13], [9, 5, 1]];
+    let octet = Pair {
+        id: 7,
+        value: Value::Unsigned(200),
+    };
+    let signed = Pair {
+        id: 8,
+        value: Value::Signed(-1),
+    };
+    let params = Params::new().push(octet).push(signed);
+    let mut data = [0u8; 9];
+    params.write_to_slice(&list, &mut data);
+    let mut hex = [b' '; 19];
+    text::put_hex(&mut hex, 1, &data);
+    say(b"set request");
+    say(&hex);
+    say(b"\n");
+    told_pairs(Params::read(&list, tc_read::app_data(command, true)));
+    told_pairs(Params::read(&list, text::part(&data, 0, 8)));
+}
+
+fn told_pairs(r: ParamsRead) {
+    say(b"parameters");
+    let result = r.result;
+    match result {
+        CheckResult::Ok => {
+            say_pair(r.params.get(0));
+            say_pair(r.params.get(1));
+            say(b"\n");
+        }
+        CheckResult::Err(e) => {
+            say(b" refused ");
+            say_number(e.number() as usize);
+            say(b"\n");
+        }
+    }
+}
+
+fn say_pair(said: PairAt) {
+    match said {
+        PairAt::None => {}
+        PairAt::Some(pair) => {
+            say(b" ");
+            say_number(pair.id as usize);
+            let value = pair.value;
+            say_value(value);
+        }
+    }
+}
+
+fn say_value(value: Value) {
+    match value {
+        Value::Unsigned(n) => {
+            say(b"=");
+            io::print_decimal(STDOUT_FILENO, n);
+        }
+        Value::Signed(z) => say_signed(z),
+        Value::Single(_) => say(b"=single"),
+        Value::SingleNan(_) => say(b"=NaN"),
+        Value::Double(_) => say(b"=double"),
+        Value::DoubleNan(_) => say(b"=NaN"),
+    }
+}
+
+fn say_signed(z: i64) {
+    if z < 0 {
+        say(b"=-");
+    } else {
+        say(b"=");
+    }
+    io::print_decimal(STDOUT_FILENO, param_value::unsigned_abs(z));
+}
+
 fn main() {
     // It asks for all four reports; its checksum comes last.
     let ping = [
@@ -139,5 +222,32 @@ fn main() {
     // A report of failure has a code behind the request.
     let t = reported(t, 8, &ping[..4]);
     let t = reported(t, 8, &failed);
-    sent(t, &ping[..12]);
+    let t = sent(t, &ping[..12]);
+    // The same pairs as the data of a command of service 20, subtype 3.
+    let command = [
+        0x19u8,
+        0x23,
+        0xC0,
+        0x07,
+        0x00,
+        0x0F,
+        0x29,
+        0x14,
+        0x03,
+        0x00,
+        0x00,
+        0x02,
+        0x00,
+        0x07,
+        0xC8,
+        0x00,
+        0x08,
+        0xFF,
+        0xFF,
+        0xFF,
+        0x16,
+        0x1A,
+    ];
+    sent(t, &command);
+    set_parameters(&command);
 }

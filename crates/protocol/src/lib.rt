@@ -5,6 +5,7 @@ mod checksum;
 mod fields;
 mod header;
 mod items;
+mod parameters;
 mod read;
 mod show;
 mod telemetry;
@@ -42,6 +43,12 @@ fn reply(line: &[u8], a: &mut [u8], b: &mut [u8]) {
     }
     if check::same(text::piece(line, 32, 0), b"best") {
         return best::reply(line, a, b);
+    }
+    if check::same(text::piece(line, 32, 0), b"params") {
+        return parameters::read(line, a);
+    }
+    if check::same(text::piece(line, 32, 0), b"wparams") {
+        return parameters::write(line, a);
     }
     reply_to(Form::Tc(TcForm::PUS_C), kind(line), line, a, b)
 }

@@ -74,7 +74,7 @@ fn chunks(s: &[u8]) {
     }
 }
 
-fn hex(s: &[u8]) {
+pub(crate) fn hex(s: &[u8]) {
     let mut out = io::buffer();
     let n = text::put_hex(&mut out, 0, s);
     say(text::part(&out, 0, n));

@@ -170,7 +170,12 @@ errorOf n =
     (pick (eqb (n .number) 16) E.RequestNotOpen
     (pick (eqb (n .number) 17) E.RequestOpen
     (pick (eqb (n .number) 18) E.TrackerFull
-    (pick (eqb (n .number) 19) E.SpareLength (pick (eqb (n .number) 20) E.SpareNotZero E.SourceWidth))))))))))))))))))
+    (pick (eqb (n .number) 19) E.SpareLength
+    (pick (eqb (n .number) 20) E.SpareNotZero
+    (pick (eqb (n .number) 21) E.ParameterList
+    (pick (eqb (n .number) 22) E.UnknownParameter
+    (pick (eqb (n .number) 23) E.OctetsLeftOver
+    (pick (eqb (n .number) 24) E.ParameterValue E.SourceWidth))))))))))))))))))))))
 
 pub error-back : (e : PusError) → errorOf (numbersOf e) ≡ e
 unfolding errorOf
@@ -193,6 +198,10 @@ error-back E.RequestOpen = refl
 error-back E.TrackerFull = refl
 error-back E.SpareLength = refl
 error-back E.SpareNotZero = refl
+error-back E.ParameterList = refl
+error-back E.UnknownParameter = refl
+error-back E.OctetsLeftOver = refl
+error-back E.ParameterValue = refl
 error-back E.SourceWidth = refl
 
 pub numbers-inj : (e f : PusError) → numbersOf e ≡ numbersOf f → e ≡ f
@@ -219,6 +228,10 @@ not-five E.RequestOpen = refl
 not-five E.TrackerFull = refl
 not-five E.SpareLength = refl
 not-five E.SpareNotZero = refl
+not-five E.ParameterList = refl
+not-five E.UnknownParameter = refl
+not-five E.OctetsLeftOver = refl
+not-five E.ParameterValue = refl
 not-five E.SourceWidth = refl
 
 pub no-five : (e : PusError) → numbersOf e .number ≡ 5 → ⊥

@@ -76,6 +76,10 @@ numbersOf E.RequestOpen = refusal 17 []
 numbersOf E.TrackerFull = refusal 18 []
 numbersOf E.SpareLength = refusal 19 []
 numbersOf E.SpareNotZero = refusal 20 []
+numbersOf E.ParameterList = refusal 21 []
+numbersOf E.UnknownParameter = refusal 22 []
+numbersOf E.OctetsLeftOver = refusal 23 []
+numbersOf E.ParameterValue = refusal 24 []
 numbersOf E.SourceWidth = refusal 32 []
 
 -- written out, with 0 for a value that it has not

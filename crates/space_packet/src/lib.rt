@@ -63,6 +63,14 @@ pub enum PusError {
     SpareLength,
     // 20
     SpareNotZero,
+    // 21: a list of parameters that is not strictly rising, or has a type that is not named
+    ParameterList,
+    // 22
+    UnknownParameter,
+    // 23
+    OctetsLeftOver,
+    // 24: a value of another kind or over its width, or more than 255 pairs
+    ParameterValue,
     // 32: a source ID of another width than 0, 8 and 16 bits
     SourceWidth,
 }
@@ -127,6 +135,10 @@ impl PusError {
             PusError::TrackerFull => in_numbers(18, 0, 0, 0),
             PusError::SpareLength => in_numbers(19, 0, 0, 0),
             PusError::SpareNotZero => in_numbers(20, 0, 0, 0),
+            PusError::ParameterList => in_numbers(21, 0, 0, 0),
+            PusError::UnknownParameter => in_numbers(22, 0, 0, 0),
+            PusError::OctetsLeftOver => in_numbers(23, 0, 0, 0),
+            PusError::ParameterValue => in_numbers(24, 0, 0, 0),
             PusError::SourceWidth => in_numbers(32, 0, 0, 0),
         }
     }

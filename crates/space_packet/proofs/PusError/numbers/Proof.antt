@@ -142,6 +142,30 @@ enum-told-13 c = search needs
 in-numbers-requires-18 : tie.Need-in-numbers-requires-18
 in-numbers-requires-18 c κs = search needs
 
+enum-told-14 : tie.Need-enum-told-14
+enum-told-14 c = search needs
+
+in-numbers-requires-19 : tie.Need-in-numbers-requires-19
+in-numbers-requires-19 c κs = search needs
+
+enum-told-15 : tie.Need-enum-told-15
+enum-told-15 c = search needs
+
+in-numbers-requires-20 : tie.Need-in-numbers-requires-20
+in-numbers-requires-20 c κs = search needs
+
+enum-told-16 : tie.Need-enum-told-16
+enum-told-16 c = search needs
+
+in-numbers-requires-21 : tie.Need-in-numbers-requires-21
+in-numbers-requires-21 c κs = search needs
+
+enum-told-17 : tie.Need-enum-told-17
+enum-told-17 c = search needs
+
+in-numbers-requires-22 : tie.Need-in-numbers-requires-22
+in-numbers-requires-22 c κs = search needs
+
 returns : tie.Need-returns
 returns c = told (c .numbers .ensures) (c .before .before .self .given .1)
 
@@ -199,6 +223,18 @@ returns-18 c = told (c .in-numbers17 .ensures) (c .before .enum-told12 .given .1
 returns-19 : tie.Need-returns-19
 returns-19 c = told (c .in-numbers18 .ensures) (c .before .enum-told13 .given .1)
 
+returns-20 : tie.Need-returns-20
+returns-20 c = told (c .in-numbers19 .ensures) (c .before .enum-told14 .given .1)
+
+returns-21 : tie.Need-returns-21
+returns-21 c = told (c .in-numbers20 .ensures) (c .before .enum-told15 .given .1)
+
+returns-22 : tie.Need-returns-22
+returns-22 c = told (c .in-numbers21 .ensures) (c .before .enum-told16 .given .1)
+
+returns-23 : tie.Need-returns-23
+returns-23 c = told (c .in-numbers22 .ensures) (c .before .enum-told17 .given .1)
+
 pub numbers-spec : {M : Type 1} → statement M
 numbers-spec =
     tie.close
@@ -247,6 +283,14 @@ numbers-spec =
     in-numbers-requires-17
     enum-told-13
     in-numbers-requires-18
+    enum-told-14
+    in-numbers-requires-19
+    enum-told-15
+    in-numbers-requires-20
+    enum-told-16
+    in-numbers-requires-21
+    enum-told-17
+    in-numbers-requires-22
     returns
     returns-2
     returns-3
@@ -265,4 +309,8 @@ numbers-spec =
     returns-16
     returns-17
     returns-18
-    returns-19)
+    returns-19
+    returns-20
+    returns-21
+    returns-22
+    returns-23)

@@ -1,0 +1,10 @@
+pub mod Powers
+pub mod Signs
+pub mod Numbers
+pub mod Reals
+pub mod Types
+pub mod Inverse
+pub mod Calls
+pub mod RoundTrip
+pub mod Bits
+pub mod Determined

@@ -1,0 +1,20 @@
+use mathlib.Core.Path.{sym, _∙_}
+use Rattle.param_value.proofs.Reals.{not-yet}
+use borrow.Author.Needs.{needs}
+use Rattle.param_value.proofs.single_of.Statement.{statement}
+use Rattle.param_value.proofs.single_of.Tie as tie
+
+is-nan32-requires : tie.Need-is-nan32-requires
+is-nan32-requires c κs = search needs
+
+returns : tie.Need-returns
+returns c = simp (sym (c .before .is-nan32 .ensures) ∙ c .if1 .taken)
+
+float-from-bits-t3 : tie.Need-float-from-bits-t3
+float-from-bits-t3 c = not-yet _ (sym (c .before .is-nan32 .ensures) ∙ c .if1 .left)
+
+returns-2 : tie.Need-returns-2
+returns-2 c = simp (sym (c .before .is-nan32 .ensures) ∙ c .if1 .left)
+
+pub single-of-spec : {M : Type 1} → statement M
+single-of-spec = tie.close (tie.spec is-nan32-requires returns float-from-bits-t3 returns-2)

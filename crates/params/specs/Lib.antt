@@ -1,0 +1,3 @@
+pub mod Parameters
+pub mod Request
+pub mod Places

@@ -1,0 +1,5 @@
+pub mod Machine
+pub mod Inverse
+pub mod Cut
+pub mod Whole
+pub mod Calls
