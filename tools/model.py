@@ -4,7 +4,7 @@
 It speaks the protocol of docs/PROTOCOL.md, one request a line in and one answer a line out, and was written from the
 layout, the table of refusals and the orders of refusals, without a look at the port or at the crate. The checksum is
 Python's own, binascii.crc_hqx. Unlike the crate it also has an answer outside the domain of equality (a field over its
-width, a version other than C, a total above 65,542 octets), to `strict`, `split`, `track`, `best`, `params` and `wparams`, and to requests in
+width, a version other than C, a total above 65,542 octets), to `strict`, `split`, `track`, `best`, `params`, `wparams`, `profile` and `pbuild`, and to requests in
 PUS A, with spare octets and of telemetry. What is open it works out from all calls so far, each time anew.
 
     tools/model.py <requests >answers
@@ -259,10 +259,10 @@ class Creator:
             in_range(SETTER_PLACES[name], *values, self.form.tops)
         setattr(self.sp if name in Sp.NAMES else self.sec, name, *values)
 
-    def answer(self, buffer):
-        """The record, then each of the three writes on its own copy of the buffer."""
+    def answer(self, buffer, writes=(True, True, False)):
+        """The record, then each of the writes, with the checksum wanted or not, on its own copy of the buffer."""
         words = ['made', self.sp, self.sec, self.has_checksum, self.total(), outcome(self.own_checksum)]
-        for checksum_wanted in (True, True, False):
+        for checksum_wanted in writes:
             words += written(self.write, buffer, checksum_wanted)
         return words
 
@@ -565,6 +565,35 @@ def wparams(rows, pairs_set, buffer):
     return [f'ok:{len(octets)}', text(octets + buffer[len(octets):])]
 
 
+# The small-satellite profile.
+
+SERVICES = 1, 3, 5, 8, 17, 20
+
+
+def in_profile(sp, sec, data):
+    """25 to 30, in the order of the rules."""
+    refuse_if(PUS_C.start + len(data) + 2 > 1024, 25)
+    refuse_if(sp.sflags != 3, 26)
+    refuse_if(sp.apid >= 64, 27)
+    refuse_if(sec.service not in SERVICES, 28)
+    refuse_if(not sec.ack & 8, 29)
+    refuse_if(sec.service == 17 and len(data) > 0, 30)
+
+
+def profile(octets):
+    """The strict verdict, then the profile's rules."""
+    reader = strict(octets)
+    in_profile(reader.sp, reader.sec, reader.data)
+    return reader
+
+
+def profile_build(setters, data):
+    """The builder's 7 and 6, then the profile's rules."""
+    creator = build(setters, data, PUS_C)
+    in_profile(creator.sp, creator.sec, creator.data)
+    return creator
+
+
 # The words of the protocol.
 
 def text(octets):
@@ -687,10 +716,12 @@ FLAG, SEQFLAGS, VERSION = digit_of('0', '1'), digit_of('0', '1', '2', '3'), digi
 SP_ROW, SEC_ROW = (U8, FLAG, FLAG, U16, SEQFLAGS, U16, U16), (VERSION, U8, U8, U8, U16)
 TM_ROW = (VERSION, U8, U8, U8, U16, U16)
 DATA, CCCC, MODE, FIN = octets_of, checksum_of, one_of(*WAYS), one_of('f', 'n', 'c')
-SETTERS = list_of({
+PROFILE_ITEMS = {
     'pid': row_of(FLAG, FLAG, U16), 'psc': row_of(SEQFLAGS, U16), 'scount': row_of(U16), 'mtid': row_of(U8, U8),
     'service': row_of(U8), 'subtype': row_of(U8), 'source': row_of(U16), 'ack': row_of(U8), 'apid': row_of(U16),
-    'cksum': row_of(FLAG), 'data': row_of(one_of('1'))})
+    'data': row_of(one_of('1'))}
+PROFILE_SETTERS = list_of(PROFILE_ITEMS)                  # its checksum cannot be switched off
+SETTERS = list_of(PROFILE_ITEMS | {'cksum': row_of(FLAG)})
 
 
 def SP(word):
@@ -800,9 +831,21 @@ def do_consts():
     return ['ALL=15 HEADER_LEN=5 LENGTH=6 MIN=11 DEFAULT=0 MAX_APID=2047 MAX_SEQ_COUNT=16383']
 
 
-def do_strict(octets, form=PUS_C):
-    reader = strict(octets, form)
+def accepted(reader):
     return ['accept', reader.sp, *reader.sec.words(), *reader.place()]
+
+
+def do_strict(octets, form=PUS_C):
+    return accepted(strict(octets, form))
+
+
+def do_profile(octets):
+    return accepted(profile(octets))
+
+
+def do_pbuild(setters, data, buffer):
+    """The profile's command has one write, with the checksum."""
+    return profile_build(setters, data).answer(buffer, (True,))
 
 
 CREATION = [SP, SEC, FLAG, FLAG, DATA, EDITS]
@@ -826,6 +869,8 @@ REQUESTS = {
     'best': (best, [U8, DATA, DATA]),
     'params': (params, [LIST, DATA]),
     'wparams': (wparams, [LIST, PAIRS, DATA]),
+    'profile': (do_profile, [DATA]),
+    'pbuild': (do_pbuild, [PROFILE_SETTERS, DATA, DATA]),
 }
 IN_PUS_A = {kind: REQUESTS[kind] for kind in ('read', 'create', 'build', 'strict')}
 IN_PUS_C = IN_PUS_A | {kind: REQUESTS[kind] for kind in ('reserve', 'split', 'cmprc', 'cmprr')}

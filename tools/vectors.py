@@ -21,6 +21,8 @@ out at every run.
              the largest packets, the same octets at every length, other lengths, and the grammar
     params   set requests read and written: every width's edges, NaNs of each kind, zeros, infinities, data that end early
              everywhere, the orders of refusals, faults of the list, 255 pairs, and the grammar of both
+    profile  the small-satellite profile, judged and built: each rule at its edges, rules broken together, faults that stand before
+             them, bits changed in an accepted packet, and the grammar
 
     tools/vectors.py FOLDER
 """
@@ -1113,9 +1115,116 @@ def params_grammar():
         yield f'wparams {WHOLE} {made} {zeros(12)}'
 
 
+# Each breaks one rule of the profile; `data` is empty data for service 17, and the first rule broken is the one that is told.
+RULES = {'length': {'data': bytes(1012)}, 'segmented': {'sflags': 1}, 'apid': {'apid': 64}, 'service': {'service': 2},
+         'acceptance': {'ack': 7}, 'data': {'service': 17, 'data': b'\1'}}
+
+
+def profile_fields(*broken):
+    """A command's fields within the profile but for these rules; the service's fault stands before that of its data."""
+    fields = {'sflags': 3, 'apid': 63, 'scount': 5, 'ack': 9, 'service': 3, 'subtype': 1, 'source': 7, 'data': b''}
+    for rule in reversed([rule for rule in RULES if rule in broken]):
+        fields |= RULES[rule]
+    return fields
+
+
+def profile_packet(fields):
+    sp = 0, 1, 1, fields['apid'], fields['sflags'], fields['scount'], 0
+    return tc(fields['data'], sp, (2, fields['ack'], fields['service'], fields['subtype'], fields['source']))
+
+
+def profile_setters(fields):
+    """The builder's setters for these fields."""
+    return (f'psc={fields["sflags"]},{fields["scount"]};apid={fields["apid"]};ack={fields["ack"]};service={fields["service"]};'
+            f'subtype={fields["subtype"]};source={fields["source"]};data=1')
+
+
+def profile_requests(rng):
+    both = list(profile_edges(rng))
+    yield from (f'profile {text(profile_packet(fields))}' for fields in both)
+    yield from (f'pbuild {profile_setters(fields)} {text(fields["data"])} {text(rng.randbytes(15 + len(fields["data"])))}' for fields in both)
+    yield from profile_verdicts(rng)
+    yield from profile_builds(rng)
+    yield from profile_grammar()
+
+
+def profile_edges(rng):
+    """Each rule at its edges and beyond them, then each choice of up to three rules that are broken."""
+    good = profile_fields()
+    for size in 0, 1, 2, 243, 1010, 1011, 1012, 1013, 1024, 1025:
+        yield from (good | {'service': service, 'data': rng.randbytes(size)} for service in (20, 17))
+    yield from (good | {'sflags': flags} for flags in range(4))
+    yield from (good | {'apid': apid} for apid in (0, 1, 62, 63, 64, 65, 127, 128, 1023, 1024, 2046))
+    yield from (good | {'service': service} for service in range(256))
+    yield from (good | {'service': service, 'data': b'\0'} for service in (0, 1, 3, 5, 8, 16, 17, 18, 20))
+    yield from (good | {'ack': ack} for ack in range(16))
+    yield from (good | {'scount': count, 'subtype': subtype, 'source': source}
+                for count, subtype, source in ((0, 0, 0), (16383, 255, 65535), (1, 128, 256)))
+    for count in 2, 3:
+        yield from (profile_fields(*broken) for broken in itertools.combinations(RULES, count))
+
+
+def profile_verdicts(rng):
+    within = profile_packet(profile_fields() | {'data': b'\1\2'})
+    yield from (f'profile {text(octets)}' for octets in (b'', within[:-1], within + b'tail', within[:11], within[:10]))
+    yield from (f'profile {octets}' for octets in (P5, P6))
+    # The strict checks stand before each rule: an APID of 2,047 is idle, and more than 63.
+    for broken, count in itertools.product([(), *((rule,) for rule in RULES)], (1, 2)):
+        packet = profile_packet(profile_fields(*broken))
+        yield from (f'profile {text(faulty(packet, chosen))}' for chosen in itertools.combinations([fault for fault in FAULTS if fault != "idle"], count))
+        yield f'profile {text(profile_packet(profile_fields(*broken) | {"apid": 2047}))}'
+    for spare in 1, 4:                                    # spare octets are data here
+        yield f'profile {text(tc(b"", (0, 1, 1, 5, 3, 5, 0), (2, 8, 17, 1, 0), pus_c(spare)))}'
+        yield f'profile {text(tc(b"", (0, 1, 1, 5, 3, 5, 0), (2, 8, 3, 1, 0), pus_c(spare)))}'
+    yield f'profile {text(tm(telemetry(0)))}'
+    for at in range(8 * len(within)):                     # each bit changed, and each run of two octets
+        octets = bytearray(within)
+        octets[at // 8] ^= 0x80 >> at % 8
+        yield f'profile {text(octets)}'
+    for at in range(len(within) - 1):
+        octets = bytearray(within)
+        octets[at] ^= rng.randint(1, 255)
+        octets[at + 1] ^= rng.randint(0, 255)
+        yield f'profile {text(octets)}'
+    yield f'profile {text(tc((bytes(range(256)) * 256)[:65529]))}'
+
+
+def profile_builds(rng):
+    yield from (f'pbuild - - {zeros(13)}', f'pbuild mtid=17,1 - {zeros(13)}', f'pbuild mtid=17,1 AA {zeros(13)}',
+                f'pbuild mtid=17,1;data=1 AA {zeros(14)}', f'pbuild mtid=17,1;data=1 - {zeros(13)}')
+    setters = profile_setters(profile_fields())
+    for data, room in itertools.product((b'', rng.randbytes(3)), (-13, -1, 0, 1, 20)):    # the room for it, and less and more
+        yield f'pbuild {setters} {text(data)} {text(rng.randbytes(13 + len(data) + room))}'
+    for broken in RULES:                                  # what is not built is not written, in whatever buffer
+        fields = profile_fields(broken)
+        yield f'pbuild {profile_setters(fields)} {text(fields["data"])} -'
+    # A setter refuses what is handed in over its width, before all else; the last of a name stands.
+    for setter in ('apid=2048', 'apid=65535', 'pid=1,1,2048', 'scount=16384', 'psc=3,16384', 'psc=0,16384', 'ack=16', 'ack=255'):
+        yield from (f'pbuild {one} - {zeros(13)}' for one in (setter, f'{setters};{setter}', f'{setter};{setters}', f'psc=0,0;apid=64;{setter}'))
+    for setter in ('apid=64', 'apid=2047', 'pid=0,0,63', 'pid=0,1,64', 'pid=1,1,0', 'scount=16383', 'psc=3,0', 'psc=2,16383', 'mtid=17,2',
+                   'mtid=0,0', 'service=20', 'subtype=255', 'source=65535', 'ack=0', 'ack=7', 'ack=8', 'ack=15', 'apid=64;apid=63',
+                   'psc=0,1;psc=3,2', 'psc=1,1;scount=2', 'ack=7;ack=8', 'mtid=2,2;service=1', 'service=17;data=1'):
+        yield f'pbuild {setters};{setter} - {zeros(13)}'
+    # 6 stands before the rules, and 25 up to it.
+    most = (bytes(range(256)) * 256)[:65530]
+    for size, setter in (65529, 'service=20'), (65530, 'psc=0,0;apid=64;ack=0;mtid=17,1'), (65530, 'apid=2048'):
+        yield f'pbuild data=1;{setter} {text(most[:size])} -'
+
+
+def profile_grammar():
+    yield from ('profile', 'profile ', 'profile 0', 'profile - -', 'Profile -', 'profiles -', 'profile ab', 'in c0 profile -', 'in a8 profile -',
+                'in t0 profile -', 'in profile -', 'pbuild', 'pbuild -', 'pbuild - -', 'pbuild - - - -', 'pbuild - 0 -', 'pbuild - - 0',
+                'pbuild  - -', 'pbuild ack=16 0 -', 'in c0 pbuild - - -', 'in a16 pbuild - - -', 'pBuild - - -', 'pbuilds - - -')
+    for setters in ('cksum=1', 'cksum=0', 'mtid=17,1;cksum=1', 'cksum', 'cksum=2', 'data=0', 'data=', 'data', 'data=01', 'pid=1,1', 'pid=2,1,1',
+                    'psc=4,1', 'psc=3', 'mtid=1', 'mtid=256,1', 'upd', 'dlen=1', 'pvn=0', 'type=1', 'shf=1', 'sflags=3', 'version=2',
+                    'source=65536', 'ack=256', 'apid=9999;ack=256', 'apid=65536', ';', 'apid=1;', 'apid=1;;ack=8', 'ack=+8', 'ack=008;mtid=03,1'):
+        yield f'pbuild {setters} - {zeros(13)}'
+
+
 FILES = {'crc': crc_requests, 'header': header_requests, 'write': write_requests, 'limits': limits_requests,
          'read': read_requests, 'strict': strict_requests, 'grammar': grammar_requests, 'pus_a': pus_a_requests,
-         'telemetry': telemetry_requests, 'track': track_requests, 'best': best_requests, 'spare': spare_requests, 'params': params_requests}
+         'telemetry': telemetry_requests, 'track': track_requests, 'best': best_requests, 'spare': spare_requests,
+         'params': params_requests, 'profile': profile_requests}
 
 
 def main():

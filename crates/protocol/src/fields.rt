@@ -80,12 +80,13 @@ fn plain(form: u8, s: &[u8], v: &mut [u64], at: usize) -> usize {
     numbers(s, most, v, at)
 }
 
-// CCCC for `c`, MODE for `m` and `n`, FIN for `z`, EDITS for `e` and of telemetry for `f`, SETTERS for `t`.
+// CCCC for `c`, MODE for `m` and `n`, FIN for `z`, EDITS for `e` and of telemetry for `f`, SETTERS for `t` and of the profile for `p`.
 fn word(form: u8, s: &[u8]) -> Value {
     match form {
         99 => text::word(s),
         101 => items::edits(s),
         102 => items::tm_edits(s),
+        112 => items::profile_setters(s),
         116 => items::setters(s),
         122 => among(s, b"f n c"),
         _ => among(s, b"new nt noverify nocrc"),

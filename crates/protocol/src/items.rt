@@ -4,7 +4,7 @@ use space_packet::CheckResult;
 use text::Value;
 
 // The first 14 names edit a creator of telemetry, those from the fourth to the sixteenth one of telecommands, and those from
-// the eleventh on set a builder.
+// the eleventh on set a builder; the last of them not the profile's, which always has a checksum.
 const TM_EDITS_END: usize = 14;
 
 const EDITS: usize = 3;
@@ -12,6 +12,8 @@ const EDITS: usize = 3;
 const EDITS_END: usize = 16;
 
 const SETTERS: usize = 10;
+
+const PROFILE_SETTERS_END: usize = 20;
 
 const SETTERS_END: usize = 21;
 
@@ -28,7 +30,7 @@ pub(crate) fn item(s: &[u8], k: usize, v: &mut [u64; 4]) -> usize {
     let item = text::piece(s, 59, k);
     let name = fields::place(
         text::piece(item, 61, 0),
-        b"status counter dest dlen pvn sflags type shf version upd apid scount service subtype source ack pid psc mtid cksum data",
+        b"status counter dest dlen pvn sflags type shf version upd apid scount service subtype source ack pid psc mtid data cksum",
     );
     if values(name, item, v) {
         return name;
@@ -43,7 +45,7 @@ fn values(name: usize, item: &[u8], v: &mut [u64; 4]) -> bool {
         return parts == 1;
     }
     let s = text::piece(item, 61, 1);
-    if parts != 2 || name == 20 && !check::same(s, b"1") {
+    if parts != 2 || name == 19 && !check::same(s, b"1") {
         return false;
     }
     let most = text::piece(
@@ -66,6 +68,10 @@ pub(crate) fn setters(s: &[u8]) -> Value {
     good(s, SETTERS, SETTERS_END)
 }
 
+pub(crate) fn profile_setters(s: &[u8]) -> Value {
+    good(s, SETTERS, PROFILE_SETTERS_END)
+}
+
 // Whether there is a `data`, as 1 or 0, where each item is good and its name from `from` up to `end`.
 fn good(s: &[u8], from: usize, end: usize) -> Value {
     let n = count(s);
@@ -76,7 +82,7 @@ fn good(s: &[u8], from: usize, end: usize) -> Value {
         if name < from || end <= name {
             return Value::Bad;
         }
-        if name == 20 {
+        if name == 19 {
             taken = 1;
         }
         k += 1;

@@ -8,6 +8,7 @@ mod items;
 mod parameters;
 mod read;
 mod show;
+mod tailored;
 mod telemetry;
 mod track;
 mod verdict;
@@ -19,7 +20,7 @@ use tc_header::TcForm;
 use text::Value;
 
 // The requests before this one only read.
-const SPHWRITE: usize = 8;
+const SPHWRITE: usize = 9;
 
 // Answers a line. a and b are room for the octets that its fields write.
 fn answer(line: &[u8], a: &mut [u8], b: &mut [u8]) {
@@ -87,19 +88,19 @@ fn behind(s: &[u8]) -> &[u8] {
 
 // strict, read, create, build
 fn in_a(kind: usize) -> bool {
-    kind == 2 || kind == 6 || kind == 9 || kind == 10
+    kind == 2 || kind == 6 || kind == 10 || kind == 11
 }
 
 // Those, and split, cmprr, reserve, cmprc.
 fn in_c(kind: usize) -> bool {
-    in_a(kind) || kind == 3 || kind == 7 || kind == 11 || kind == 12
+    in_a(kind) || kind == 3 || kind == 7 || kind == 12 || kind == 13
 }
 
 // The place of a request's first word among these, or how many there are.
 fn kind(line: &[u8]) -> usize {
     fields::place(
         text::piece(line, 32, 0),
-        b"crc sphread strict split verify ack read cmprr sphwrite create build reserve cmprc simple consts",
+        b"crc sphread strict split verify ack read cmprr profile sphwrite create build reserve cmprc simple pbuild consts",
     )
 }
 
@@ -130,7 +131,7 @@ fn asked(
     match form {
         Form::Tc(_) => fields::read(
             text::piece(
-                b"a a a a ac 3 ma manb 0b 0122aeb tab 0152azb mb0122ae 433",
+                b"a a a a ac 3 ma manb a 0b 0122aeb tab 0152azb mb0122ae 433 pab",
                 32,
                 kind,
             ),
@@ -196,19 +197,21 @@ fn reads(form: TcForm, kind: usize, v: [u64; 20], data: &[u8], other: &[u8]) {
         4 => checksum::verify(v, data),
         5 => header::ack(v),
         6 => read::read(form, v, data),
-        _ => read::compare(form, v, data, other),
+        7 => read::compare(form, v, data, other),
+        _ => tailored::judge(data),
     }
 }
 
 fn writes(form: TcForm, kind: usize, line: &[u8], v: [u64; 20], data: &[u8], buf: &mut [u8]) {
     match kind {
-        8 => header::write(v, buf),
-        9 => write::create(form, line, v, data, buf),
-        10 => write::build(form, line, v, data, buf),
-        11 => write::reserve(form, v, data, buf),
-        12 => write::compare(form, line, v, data, buf),
-        13 => write::simple(v),
-        14 => header::consts(),
+        9 => header::write(v, buf),
+        10 => write::create(form, line, v, data, buf),
+        11 => write::build(form, line, v, data, buf),
+        12 => write::reserve(form, v, data, buf),
+        13 => write::compare(form, line, v, data, buf),
+        14 => write::simple(v),
+        15 => tailored::build(line, v, data, buf),
+        16 => header::consts(),
         _ => show::bad(),
     }
 }

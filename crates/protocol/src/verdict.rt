@@ -9,7 +9,11 @@ use tc_strict::split::Step;
 
 // strict DATA
 pub(crate) fn judge(form: TcForm, s: &[u8]) {
-    let v = tc_strict::judge_in(form, s);
+    told(tc_strict::judge_in(form, s))
+}
+
+// The refusal, or what is reported.
+pub(crate) fn told(v: Verdict) {
     match v {
         Verdict::Refused(e) => show::refusal(e),
         Verdict::Accepted(record) => read::report(b"accept ", record),

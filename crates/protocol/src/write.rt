@@ -262,7 +262,7 @@ fn built(builder: PusTcBuilder, data: &[u8], field: &[u8], buf: &mut [u8]) {
 }
 
 // DATA where the setters take it.
-fn taken(n: u64, data: &[u8]) -> &[u8] {
+pub(crate) fn taken(n: u64, data: &[u8]) -> &[u8] {
     if n == 1 {
         return data;
     }
@@ -315,7 +315,7 @@ fn set_by(b: PusTcBuilder, name: usize, v: [u64; 4]) -> PusTcBuilderSet {
     }
 }
 
-fn packet_id(v: [u64; 4]) -> PacketId {
+pub(crate) fn packet_id(v: [u64; 4]) -> PacketId {
     PacketId::new(
         PacketType::new_with_raw_value(fields::low8(v[0])),
         v[1] == 1,
@@ -323,7 +323,7 @@ fn packet_id(v: [u64; 4]) -> PacketId {
     )
 }
 
-fn psc(v: [u64; 4]) -> PacketSequenceControl {
+pub(crate) fn psc(v: [u64; 4]) -> PacketSequenceControl {
     PacketSequenceControl::new(
         SequenceFlags::new_with_raw_value(fields::low8(v[0])),
         fields::psc(v[1]).seq_count,
@@ -336,7 +336,7 @@ fn set_freely(b: PusTcBuilder, name: usize, v: [u64; 4]) -> PusTcBuilder {
         12 => b.with_service_type_id(fields::low8(v[0])),
         13 => b.with_message_subtype_id(fields::low8(v[0])),
         18 => b.with_message_type_id(MessageTypeId::new(fields::low8(v[0]), fields::low8(v[1]))),
-        19 => b.with_checksum(v[0] == 1),
+        20 => b.with_checksum(v[0] == 1),
         _ => b,
     }
 }

@@ -175,7 +175,13 @@ errorOf n =
     (pick (eqb (n .number) 21) E.ParameterList
     (pick (eqb (n .number) 22) E.UnknownParameter
     (pick (eqb (n .number) 23) E.OctetsLeftOver
-    (pick (eqb (n .number) 24) E.ParameterValue E.SourceWidth))))))))))))))))))))))
+    (pick (eqb (n .number) 24) E.ParameterValue
+    (pick (eqb (n .number) 25) E.ProfileLength
+    (pick (eqb (n .number) 26) E.ProfileSegmented
+    (pick (eqb (n .number) 27) E.ProfileApid
+    (pick (eqb (n .number) 28) E.ProfileService
+    (pick (eqb (n .number) 29) E.ProfileAcceptance
+    (pick (eqb (n .number) 30) E.ProfileData E.SourceWidth))))))))))))))))))))))))))))
 
 pub error-back : (e : PusError) → errorOf (numbersOf e) ≡ e
 unfolding errorOf
@@ -202,6 +208,12 @@ error-back E.ParameterList = refl
 error-back E.UnknownParameter = refl
 error-back E.OctetsLeftOver = refl
 error-back E.ParameterValue = refl
+error-back E.ProfileLength = refl
+error-back E.ProfileSegmented = refl
+error-back E.ProfileApid = refl
+error-back E.ProfileService = refl
+error-back E.ProfileAcceptance = refl
+error-back E.ProfileData = refl
 error-back E.SourceWidth = refl
 
 pub numbers-inj : (e f : PusError) → numbersOf e ≡ numbersOf f → e ≡ f
@@ -232,6 +244,12 @@ not-five E.ParameterList = refl
 not-five E.UnknownParameter = refl
 not-five E.OctetsLeftOver = refl
 not-five E.ParameterValue = refl
+not-five E.ProfileLength = refl
+not-five E.ProfileSegmented = refl
+not-five E.ProfileApid = refl
+not-five E.ProfileService = refl
+not-five E.ProfileAcceptance = refl
+not-five E.ProfileData = refl
 not-five E.SourceWidth = refl
 
 pub no-five : (e : PusError) → numbersOf e .number ≡ 5 → ⊥

@@ -80,6 +80,12 @@ numbersOf E.ParameterList = refusal 21 []
 numbersOf E.UnknownParameter = refusal 22 []
 numbersOf E.OctetsLeftOver = refusal 23 []
 numbersOf E.ParameterValue = refusal 24 []
+numbersOf E.ProfileLength = refusal 25 []
+numbersOf E.ProfileSegmented = refusal 26 []
+numbersOf E.ProfileApid = refusal 27 []
+numbersOf E.ProfileService = refusal 28 []
+numbersOf E.ProfileAcceptance = refusal 29 []
+numbersOf E.ProfileData = refusal 30 []
 numbersOf E.SourceWidth = refusal 32 []
 
 -- written out, with 0 for a value that it has not

@@ -71,6 +71,18 @@ pub enum PusError {
     OctetsLeftOver,
     // 24: a value of another kind or over its width, or more than 255 pairs
     ParameterValue,
+    // 25: more than 1,024 octets, outside of the small-satellite profile
+    ProfileLength,
+    // 26: a segment
+    ProfileSegmented,
+    // 27: an APID of 64 or above
+    ProfileApid,
+    // 28: a service that the profile has not
+    ProfileService,
+    // 29: acceptance is not requested
+    ProfileAcceptance,
+    // 30: data with service 17
+    ProfileData,
     // 32: a source ID of another width than 0, 8 and 16 bits
     SourceWidth,
 }
@@ -139,6 +151,12 @@ impl PusError {
             PusError::UnknownParameter => in_numbers(22, 0, 0, 0),
             PusError::OctetsLeftOver => in_numbers(23, 0, 0, 0),
             PusError::ParameterValue => in_numbers(24, 0, 0, 0),
+            PusError::ProfileLength => in_numbers(25, 0, 0, 0),
+            PusError::ProfileSegmented => in_numbers(26, 0, 0, 0),
+            PusError::ProfileApid => in_numbers(27, 0, 0, 0),
+            PusError::ProfileService => in_numbers(28, 0, 0, 0),
+            PusError::ProfileAcceptance => in_numbers(29, 0, 0, 0),
+            PusError::ProfileData => in_numbers(30, 0, 0, 0),
             PusError::SourceWidth => in_numbers(32, 0, 0, 0),
         }
     }

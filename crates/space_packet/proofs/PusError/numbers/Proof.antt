@@ -166,6 +166,42 @@ enum-told-17 c = search needs
 in-numbers-requires-22 : tie.Need-in-numbers-requires-22
 in-numbers-requires-22 c κs = search needs
 
+enum-told-18 : tie.Need-enum-told-18
+enum-told-18 c = search needs
+
+in-numbers-requires-23 : tie.Need-in-numbers-requires-23
+in-numbers-requires-23 c κs = search needs
+
+enum-told-19 : tie.Need-enum-told-19
+enum-told-19 c = search needs
+
+in-numbers-requires-24 : tie.Need-in-numbers-requires-24
+in-numbers-requires-24 c κs = search needs
+
+enum-told-20 : tie.Need-enum-told-20
+enum-told-20 c = search needs
+
+in-numbers-requires-25 : tie.Need-in-numbers-requires-25
+in-numbers-requires-25 c κs = search needs
+
+enum-told-21 : tie.Need-enum-told-21
+enum-told-21 c = search needs
+
+in-numbers-requires-26 : tie.Need-in-numbers-requires-26
+in-numbers-requires-26 c κs = search needs
+
+enum-told-22 : tie.Need-enum-told-22
+enum-told-22 c = search needs
+
+in-numbers-requires-27 : tie.Need-in-numbers-requires-27
+in-numbers-requires-27 c κs = search needs
+
+enum-told-23 : tie.Need-enum-told-23
+enum-told-23 c = search needs
+
+in-numbers-requires-28 : tie.Need-in-numbers-requires-28
+in-numbers-requires-28 c κs = search needs
+
 returns : tie.Need-returns
 returns c = told (c .numbers .ensures) (c .before .before .self .given .1)
 
@@ -235,6 +271,24 @@ returns-22 c = told (c .in-numbers21 .ensures) (c .before .enum-told16 .given .1
 returns-23 : tie.Need-returns-23
 returns-23 c = told (c .in-numbers22 .ensures) (c .before .enum-told17 .given .1)
 
+returns-24 : tie.Need-returns-24
+returns-24 c = told (c .in-numbers23 .ensures) (c .before .enum-told18 .given .1)
+
+returns-25 : tie.Need-returns-25
+returns-25 c = told (c .in-numbers24 .ensures) (c .before .enum-told19 .given .1)
+
+returns-26 : tie.Need-returns-26
+returns-26 c = told (c .in-numbers25 .ensures) (c .before .enum-told20 .given .1)
+
+returns-27 : tie.Need-returns-27
+returns-27 c = told (c .in-numbers26 .ensures) (c .before .enum-told21 .given .1)
+
+returns-28 : tie.Need-returns-28
+returns-28 c = told (c .in-numbers27 .ensures) (c .before .enum-told22 .given .1)
+
+returns-29 : tie.Need-returns-29
+returns-29 c = told (c .in-numbers28 .ensures) (c .before .enum-told23 .given .1)
+
 pub numbers-spec : {M : Type 1} → statement M
 numbers-spec =
     tie.close
@@ -291,6 +345,18 @@ numbers-spec =
     in-numbers-requires-21
     enum-told-17
     in-numbers-requires-22
+    enum-told-18
+    in-numbers-requires-23
+    enum-told-19
+    in-numbers-requires-24
+    enum-told-20
+    in-numbers-requires-25
+    enum-told-21
+    in-numbers-requires-26
+    enum-told-22
+    in-numbers-requires-27
+    enum-told-23
+    in-numbers-requires-28
     returns
     returns-2
     returns-3
@@ -313,4 +379,10 @@ numbers-spec =
     returns-20
     returns-21
     returns-22
-    returns-23)
+    returns-23
+    returns-24
+    returns-25
+    returns-26
+    returns-27
+    returns-28
+    returns-29)

@@ -1,0 +1,27 @@
+-- `profile_exact::built` meets its contract: what is built is written where there is room, and what is written is accepted.
+use mathlib.Core.Path.{_∙_}
+use Rattle.profile_exact.proofs.Building.{written-accepted, built-written}
+use borrow.Author.Needs.{needs}
+use Rattle.profile_exact.proofs.built.Statement.{statement}
+use Rattle.profile_exact.proofs.built.Tie as tie
+
+made-requires : tie.Need-made-requires
+made-requires c κs = search needs
+
+judge-requires : tie.Need-judge-requires
+judge-requires c κs = search needs
+
+same-length : tie.Need-same-length
+same-length c = search needs
+
+returns : tie.Need-returns
+returns c =
+    let w = c .before .before .before .before in
+    let a = w .before .before .before .before .args in
+    λ t p f.
+    let v = w .made .ensures t p in
+    let n = built-written (a .builder .0) (a .app-data .now) (a .buf .now) _ _ t p f v in
+    record { answers = n; accepted = c .judge .ensures ∙ written-accepted t (a .app-data .now) (a .buf .now) _ _ _ v n .1 }
+
+pub built-spec : {M : Type 1} → statement M
+built-spec = tie.close (tie.spec made-requires judge-requires same-length returns)
