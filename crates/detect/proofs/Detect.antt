@@ -7,11 +7,12 @@ use native.Mathlib.Omega.{arith}
 use lib.ListN.{length}
 use Rattle.crc_register.specs.Crc.{_⊕_, run, bitsOf, crcFrom, crcOf}
 use Rattle.crc_register.specs.Added.{addOctets}
-use Rattle.detect.specs.Errors.{Detected, odd, burst}
+use Rattle.detect.specs.Errors.{Detected, odd, burst, pair}
 use Rattle.crc_register.proofs.Xor.{zero-⊕}
 use Rattle.crc_register.proofs.Linear.{crcOf-⊕}
 use Rattle.detect.proofs.Parity.{odd-leaves}
 use Rattle.detect.proofs.Burst.{burst-leaves}
+use Rattle.detect.proofs.Pair.{pair-leaves}
 
 -- an error that is not detected leaves an empty register empty
 pub undetected : (s e : List ℕ) → length s ≡ length e → crcOf s ≡ 0 → crcOf (addOctets s e) ≡ 0 → run 0 (bitsOf e) ≡ 0
@@ -22,3 +23,4 @@ undetected s e h z u =
 pub detects : (s e : List ℕ) → length s ≡ length e → crcOf s ≡ 0 → Detected (bitsOf e) → crcOf (addOctets s e) ≡ 0 → ⊥
 detects s e h z (odd o) u = odd-leaves (bitsOf e) (omega (arith, o)) (undetected s e h z u)
 detects s e h z (burst b) u = burst-leaves (bitsOf e) b (undetected s e h z u)
+detects s e h z (pair p) u = pair-leaves (bitsOf e) p (undetected s e h z u)

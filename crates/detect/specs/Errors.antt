@@ -27,7 +27,27 @@ pub record Burst (bs : List Bool) : Type 0 where
   pub place : ℕ
   pub set : getD bs place false ≡ true
 
--- an odd number of bits, or one or more bits all within a run of 16 consecutive bits
+-- the order of the generator (Order.antt)
+abbrev pub reach : ℕ
+reach = 32767
+
+-- two bits are set, and both lie within one run of so many: they are fewer places apart than that
+pub record Pair (bs : List Bool) : Type 0 where
+  pub two : ones bs ≡ 2
+  pub first : ℕ
+  pub within : Within reach first bs
+
+-- an odd number of bits, or one or more bits all within a run of 16 consecutive bits, or two bits within a run of 32,767
 pub data Detected (bs : List Bool) : Type 0 where
   odd : ones bs % 2 ≡ 1 → Detected bs
   burst : Burst bs → Detected bs
+  pair : Pair bs → Detected bs
+
+-- one, two or three bits are set, wherever they stand
+pub record UpToThree (bs : List Bool) : Type 0 where
+  pub one : 1 ≤ ones bs
+  pub three : ones bs ≤ 3
+
+-- so many octets have no two bits as far apart as `reach`
+abbrev pub nearOctets : ℕ
+nearOctets = 4095

@@ -1,21 +1,23 @@
 -- A packet that was accepted is refused once bits of it are changed in a way that the checksum detects: for every kind.
-use Prim.Native.Nat.{ℕ, suc}
+use Prim.Native.Nat.{ℕ, suc, _*_, _≤_, zero-le, suc-le-suc}
 use mathlib.Core.Path.{_≡_, refl, sym, ap, ap₂, _∙_, subst}
+use mathlib.Core.Bool.{Bool}
 use mathlib.Core.List.{List, [], _∷_}
 use native.Mathlib.Omega.{arith}
 use native.Mathlib.Nat.{suc-inj}
-use lib.ListN.{length, take}
+use lib.ListN.{length, take, length-take}
 use lib.Seq.{length-take-le}
 use Rattle.space_packet.specs.Answer.{Answer, Numbers, gives, refuses}
-use Rattle.crc_register.specs.Crc.{_⊕_, crcOf}
-use Rattle.crc_register.specs.Added.{addOctets}
+use Rattle.crc_register.specs.Crc.{_⊕_, octetBits, bitsOf, crcOf}
+use Rattle.crc_register.specs.Added.{addBits, addOctets}
 use Rattle.crc_register.proofs.Xor.{⊕-assoc, ⊕-self, zero-⊕}
 use Rattle.crc_register.proofs.Linear.{bitsOf-⊕}
 use Rattle.detect.specs.Errors.{Detected}
 use Rattle.detect.proofs.Detect.{detects}
+use Rattle.detect.proofs.UpToThree.{up-to-three-detected}
 use Rattle.ecss.specs.Frame.{statedOf}
 use Rattle.ecss.specs.Kind.{Kind, Packet, judge}
-use Rattle.exactness.specs.Changed.{Changed, differences}
+use Rattle.exactness.specs.Changed.{Changed, UpToThreeChanged, differences}
 use Rattle.exactness.proofs.Exact.{accepted}
 
 -- ---- the error that leads from one row of octets to another is their sum
@@ -27,7 +29,7 @@ add-length [] (y ∷ t) h = refl
 add-length (x ∷ s) [] h = absurd (omega arith)
 add-length (x ∷ s) (y ∷ t) h = ap suc (add-length s t (suc-inj h))
 
-add-back : (s t : List ℕ) → length s ≡ length t → addOctets s (addOctets s t) ≡ t
+pub add-back : (s t : List ℕ) → length s ≡ length t → addOctets s (addOctets s t) ≡ t
 unfolding addOctets
 add-back [] [] h = refl
 add-back [] (y ∷ t) h = absurd (omega arith)
@@ -40,6 +42,32 @@ pub not-both : (s t : List ℕ) → length s ≡ length t → Detected (differen
 not-both s t h d z z′ =
     detects s (addOctets s t) (add-length s t h) z (subst Detected (sym (bitsOf-⊕ s t h)) d)
     (ap crcOf (add-back s t h) ∙ z′)
+
+-- ---- one, two or three bits of a packet that is short enough
+
+bits-length : (s : List ℕ) → length (bitsOf s) ≡ 8 * length s
+unfolding bitsOf octetBits
+bits-length [] = refl
+bits-length (o ∷ s) = let e = bits-length s in omega arith
+
+added-length : (xs ys : List Bool) → length (addBits xs ys) ≤ length xs
+unfolding addBits
+added-length [] ys = zero-le
+added-length (x ∷ xs) [] = zero-le
+added-length (x ∷ xs) (y ∷ ys) = suc-le-suc (added-length xs ys)
+
+differences-length : (s s′ : List ℕ) (t : ℕ) → length (differences (take t s) (take t s′)) ≤ 8 * t
+differences-length s s′ t =
+    let a = added-length (bitsOf (take t s)) (bitsOf (take t s′)) in
+    let b = bits-length (take t s) in
+    let c = length-take t s in
+    omega arith
+
+pub up-to-three-changed : (s s′ : List ℕ) (t : ℕ) → UpToThreeChanged s s′ t → Changed s s′ t
+up-to-three-changed s s′ t d =
+    let c = d .changed in
+    let n = differences-length s s′ t in
+    record { four = c .four; five = c .five; bits = up-to-three-detected (differences (take t s) (take t s′)) (omega (arith, n, d .at-most)) (c .bits) }
 
 -- ---- the verdict
 

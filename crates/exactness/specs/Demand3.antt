@@ -15,14 +15,22 @@ use Rattle.ecss.specs.Kind.{Kind, Packet, Rules, BeginsWith, asIdle, startOf, p
 use Rattle.ecss_write.specs.Writer.{Writer, packetBy, startBy, madeBy, reserveBy, headBy, headedBy}
 use Rattle.reserve.specs.Reserve.{fillIn, filledBy, finishIn, finished}
 use Rattle.reserve.specs.declared.Reservation.{Reservation}
-use Rattle.exactness.specs.Changed.{Changed}
+use Rattle.exactness.specs.Changed.{Changed, UpToThreeChanged}
 
 -- ---- what is judged: a verdict is the answer a on s, which reports an R
 
--- where a accepts s, the answer b refuses s′, to which s is changed inside its stated total
+-- where a accepts s, the answer b refuses s′, to which s is changed inside its stated total as C says
 module _ {R : Type 0} where
+  abbrev pub RefusesIf : (List ℕ → List ℕ → ℕ → Type 0) → Answer R → List ℕ → Answer R → List ℕ → Type 0
+  RefusesIf C a s b s′ = (r : R) → a ≡ gives r → C s s′ (statedOf s) → (n : Numbers) × (b ≡ refuses n)
+
+  -- in bits that the checksum detects
   abbrev pub RefusesChanged : Answer R → List ℕ → Answer R → List ℕ → Type 0
-  RefusesChanged a s b s′ = (r : R) → a ≡ gives r → Changed s s′ (statedOf s) → (n : Numbers) × (b ≡ refuses n)
+  RefusesChanged = RefusesIf Changed
+
+  -- in one, two or three bits, where that total is at most 4,095
+  abbrev pub RefusesUpToThree : Answer R → List ℕ → Answer R → List ℕ → Type 0
+  RefusesUpToThree = RefusesIf UpToThreeChanged
 
 -- a accepts if and only if s begins with such a packet, and reports that packet; where only its APID, that of idle packets, sets it
 -- apart from one, a refuses it with 12; and where a refuses with 4, it tells both checksums of the packet, and they differ

@@ -15,9 +15,11 @@ use Rattle.space_packet.specs.declared.SequenceFlags.the-variants.{Unsegmented}
 use Rattle.space_packet.specs.declared.SpacePacketHeader.{SpacePacketHeader}
 use Rattle.space_packet.proofs.Answers.{gives-inj, then-gives, gives-then, refuses-then, refuse-gives, refuse-no}
 use Rattle.space_packet.proofs.Numbers.{flags-back}
-use Rattle.ecss.specs.Frame.{Octets}
+use Rattle.detect.specs.Errors.{nearOctets}
+use Rattle.ecss.specs.Frame.{Octets, statedOf}
 use Rattle.ecss.specs.Kind.{BeginsWith, judge}
 use Rattle.exactness.specs.Demand3.{RefusesChanged}
+use Rattle.exactness.proofs.Changed.{up-to-three-changed}
 use Rattle.exactness.proofs.Exact.{accepted}
 use Rattle.tc_header.specs.Form.{formC, formCheck}
 use Rattle.tc_header.specs.Header.{pusC}
@@ -29,7 +31,7 @@ use Rattle.tc_strict.specs.Verdict.{strictIn, strictOf}
 use Rattle.tc_demand3.specs.Rules.{Telecommand, reportFor}
 use Rattle.tc_demand3.proofs.Demand3.{reports, exactly-c, changed-refused}
 use Rattle.profile.specs.Rules.{mostOctets, fewestOctets, unsegmented, apidLimit, serviceOf, testService, rules, profileRule, profileOf}
-use Rattle.profile_exact.specs.Within.{Within, Meets, MeetsRecord, Exactly}
+use Rattle.profile_exact.specs.Within.{Within, Meets, MeetsRecord, Exactly, RefusesAnyThree}
 
 -- ---- the rules
 
@@ -128,6 +130,13 @@ states-total s r p =
     let g = f .room in
     subst (λ (q : PusTcRecord). packetLen (q .«sp_header») ≡ startC + (q .end - q .start) + 2) (gives-inj _ r (j .2)) (omega (arith, g))
 
+-- by which its bits are counted
+stated-is : (s : List ℕ) (r : PusTcRecord) → strictOf s ≡ gives r → statedOf s ≡ packetLen (r .«sp_header»)
+unfolding strictIn recordIn readHeader
+stated-is s r p =
+    let j = then-gives (judge pusC s) _ r (then-gives (formCheck formC) _ r p .2) in
+    ap (λ (q : PusTcRecord). packetLen (q .«sp_header»)) (gives-inj _ r (j .2))
+
 -- It accepts exactly the strictly accepted packets that meet the rules, and reports what the strict verdict reports.
 pub accepts-exactly : (s : List ℕ) (r : PusTcRecord) → (profileOf s ≡ gives r) ↔ ((strictOf s ≡ gives r) × MeetsRecord r)
 accepts-exactly s r = (
@@ -156,8 +165,22 @@ begins-within s o = (
 pub exact : (s : List ℕ) → Octets s → Exactly (profileOf s) s
 exact s o = record { accepts = accepts-exactly s; begins = begins-within s o; reports = reports-within s; strict-first = strict-first s }
 
--- An accepted s, changed to s′ in an odd number of bits, or in some bits within a run of 16, none of them in octets 4 and 5 and all inside
--- the stated total, is refused.
+-- An accepted s, changed to s′ in an odd number of bits, in some bits within a run of 16, or in two within a run of 32,767, none of them in
+-- octets 4 and 5 and all inside the stated total, is refused.
 pub changed-outside : (s s′ : List ℕ) → RefusesChanged (profileOf s) s (profileOf s′) s′
 changed-outside s s′ r p c =
     let n = changed-refused formC taken-c s s′ r (profile-gives s r p .0) c in (n .0, strict-first s′ (n .0) (n .1))
+
+-- what is accepted is far shorter than theorem 9 asks
+short-enough : (s : List ℕ) (r : PusTcRecord) → profileOf s ≡ gives r → statedOf s ≤ nearOctets
+short-enough s r p =
+    let a = accepts-exactly s r .0 p in
+    let m = a .1 .at-most in
+    let t = states-total s r (a .0) in
+    let e = stated-is s r (a .0) in
+    omega (arith, m, t, e)
+
+-- So is one changed in one, two or three bits, wherever in its other octets they stand.
+pub up-to-three-outside : (s s′ : List ℕ) → RefusesAnyThree (profileOf s) s (profileOf s′) s′
+up-to-three-outside s s′ r p c =
+    changed-outside s s′ r p (up-to-three-changed s s′ (statedOf s) (record { at-most = short-enough s r p; changed = c }))

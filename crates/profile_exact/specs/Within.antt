@@ -11,8 +11,10 @@ use Rattle.space_packet.specs.Fields.{apidCheck, countCheck}
 use Rattle.space_packet.specs.declared.SequenceFlags.the-variants.{Unsegmented}
 use Rattle.space_packet.specs.declared.SpacePacketHeader.{SpacePacketHeader}
 use Rattle.space_packet.specs.declared.SizeResult.{SizeResult}
+use Rattle.detect.specs.Errors.{UpToThree}
 use Rattle.ecss.specs.Kind.{BeginsWith}
-use Rattle.exactness.specs.Demand3.{totalFor}
+use Rattle.exactness.specs.Changed.{ChangedIn}
+use Rattle.exactness.specs.Demand3.{RefusesIf, totalFor}
 use Rattle.tc_header.specs.Form.{formC}
 use Rattle.tc_header.specs.Header.{ackCheck, pusC}
 use Rattle.tc_header.specs.declared.PusTcSecondaryHeader.{PusTcSecondaryHeader}
@@ -53,6 +55,11 @@ pub record Exactly (a : Answer PusTcRecord) (s : List ℕ) : Type 0 where
   pub begins : ((r : PusTcRecord) × (a ≡ gives r)) ↔ ((p : Telecommand) × (BeginsWith pusC s p × Meets p))
   pub reports : (p : Telecommand) → BeginsWith pusC s p → Meets p → a ≡ gives (reportFor formC p)
   pub strict-first : (e : Numbers) → strictOf s ≡ refuses e → a ≡ refuses e
+
+-- where a, the profile's answer on s, accepts, b refuses s′, to which s is changed inside its stated total in one, two or three bits,
+-- none of them in octets 4 and 5; no bound is asked, since what is accepted has at most 1,024 octets
+abbrev pub RefusesAnyThree : Answer PusTcRecord → List ℕ → Answer PusTcRecord → List ℕ → Type 0
+RefusesAnyThree = RefusesIf (ChangedIn UpToThree)
 
 -- what a write answered and the verdict on the buffer that it left: the command with the data d was written, and is accepted
 pub record IsAccepted (t : ProfileTc) (d : List ℕ) (r : Outcome) : Type 0 where

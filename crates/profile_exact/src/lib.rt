@@ -14,7 +14,7 @@ ghost use Rattle.profile.specs.Rules.{profileOf};
 ghost use Rattle.profile.specs.Builder.{builtFor, CommandWrote, builderOf};
 ghost use Rattle.profile.specs.declared.ProfileTc.{ProfileTc};
 ghost use Rattle.profile_exact.specs.First.{TellsFirst};
-ghost use Rattle.profile_exact.specs.Within.{Exactly, AcceptedIfWritten, IsAccepted, Fitting, fieldsOf, Again};
+ghost use Rattle.profile_exact.specs.Within.{Exactly, RefusesAnyThree, AcceptedIfWritten, IsAccepted, Fitting, fieldsOf, Again};
 use profile::ProfileBuilder;
 use profile::ProfileTc;
 use profile::ProfileTcResult;
@@ -37,7 +37,8 @@ struct Verdicts {
 }
 
 fn changed(sent: &[u8], received: &[u8]) -> Verdicts
-    ensures { λ r. ⌜ RefusesChanged (verdictAnswer (r .sent)) (now (sent .entry)) (verdictAnswer (r .received)) (now (received .entry)) ⌝ }
+    ensures { λ r. ⌜ (RefusesChanged (verdictAnswer (r .sent)) (now (sent .entry)) (verdictAnswer (r .received)) (now (received .entry))
+        × RefusesAnyThree (verdictAnswer (r .sent)) (now (sent .entry)) (verdictAnswer (r .received)) (now (received .entry))) ⌝ }
 {
     let first = profile::judge(sent);
     let second = profile::judge(received);

@@ -18,7 +18,7 @@ use Rattle.ecss.specs.Kind.{Rules, BeginsWith, asIdle, packetOf}
 use Rattle.ecss.specs.Version.{defaultConfig}
 use Rattle.ecss.proofs.Versions.{version-passes}
 use Rattle.ecss_write.specs.Writer.{packetBy, madeBy, newBy, Handed}
-use Rattle.exactness.specs.Demand3.{RefusesChanged, Exact, totalFor, Room, Accepted, madeOf, FinishedBy}
+use Rattle.exactness.specs.Demand3.{RefusesChanged, RefusesUpToThree, Exact, totalFor, Room, Accepted, madeOf, FinishedBy}
 use Rattle.exactness.proofs.Exact.{unique}
 use Rattle.exactness.proofs.Given.{handed-rules, handed-new, handed-reserve}
 use Rattle.exactness.proofs.Demand3 as Any
@@ -137,11 +137,17 @@ module _ (f : TcForm) (good : formCheck f ≡ gives tt) where
     Any.reserved-accepted (commandIn f) (writer-laws f good) (reportFor f) (strictIn f) reports p before g k,
   )
 
-  -- 5. An accepted s, changed to s′ in an odd number of bits, or in some bits within a run of 16, none of them in octets 4 and 5
-  -- and all inside the stated total, is refused, whatever follows the total.
+  -- 5. An accepted s, changed to s′ in an odd number of bits, in some bits within a run of 16, or in two within a run of 32,767, none of
+  -- them in octets 4 and 5 and all inside the stated total, is refused, whatever follows the total.
   pub changed-refused : (s s′ : List ℕ) → RefusesChanged (strictIn f s) s (strictIn f s′) s′
   unfolding strictIn
   changed-refused = Any.changed-refused (formCheck f) good (tc f) (laws f good) (λ z. recordIn f z true)
+
+  -- 9. An accepted s of at most 4,095 octets in total, changed to s′ in one, two or three bits, none of them in octets 4 and 5 and all
+  -- inside the stated total, is refused, whatever follows the total.
+  pub up-to-three-refused : (s s′ : List ℕ) → RefusesUpToThree (strictIn f s) s (strictIn f s′) s′
+  unfolding strictIn
+  up-to-three-refused = Any.up-to-three-refused (formCheck f) good (tc f) (laws f good) (λ z. recordIn f z true)
 
   -- 6. What the verdict accepts, read and written again, is the same octets.
   pub written-again : (s : List ℕ) (r : PusTcRecord) → Octets s → strictIn f s ≡ gives r
@@ -152,7 +158,7 @@ module _ (f : TcForm) (good : formCheck f ≡ gives tt) where
       (λ (r : PusTcRecord). r .total) (λ p. refl)
       (λ s r. packetBy (r .«sp_header») (r .«sec_header») (appDataIn f s true)) (λ s p b. ap (packetBy (p .primary) (p .secondary)) (reader-reports s p b .2))
 
--- ---- the editions: each theorem at PUS C with each spare length, and at PUS A with each width, that is taken; theorem 1 of both
+-- ---- the editions: each theorem at PUS C with each spare length, and at PUS A with each width, that is taken; theorems 1 and 9 of both
 
 pub exactly-spare : (n : ℕ) → n ≤ 4 → (s : List ℕ) → Octets s
     → ((r : PusTcRecord) × (strictIn (formSpare n) s ≡ gives r)) ↔ ((p : Telecommand) × BeginsWith (tc (formSpare n)) s p)
@@ -164,6 +170,15 @@ exactly-c = exactly formC taken-c
 pub exactly-a : (w : ℕ) → isWidth w ≡ true → (s : List ℕ) → Octets s
     → ((r : PusTcRecord) × (strictIn (formA w) s ≡ gives r)) ↔ ((p : Telecommand) × BeginsWith (tc (formA w)) s p)
 exactly-a w h = exactly (formA w) (form-passes (formA w) h (omega arith))
+
+pub up-to-three-refused-spare : (n : ℕ) → n ≤ 4 → (s s′ : List ℕ) → RefusesUpToThree (strictIn (formSpare n) s) s (strictIn (formSpare n) s′) s′
+up-to-three-refused-spare n h = up-to-three-refused (formSpare n) (taken-spare n h)
+
+pub up-to-three-refused-c : (s s′ : List ℕ) → RefusesUpToThree (strictOf s) s (strictOf s′) s′
+up-to-three-refused-c = up-to-three-refused formC taken-c
+
+pub up-to-three-refused-a : (w : ℕ) → isWidth w ≡ true → (s s′ : List ℕ) → RefusesUpToThree (strictIn (formA w) s) s (strictIn (formA w) s′) s′
+up-to-three-refused-a w h = up-to-three-refused (formA w) (form-passes (formA w) h (omega arith))
 
 -- PUS C has at most 65,529 octets of data less the spare ones, and PUS A 65,531 less those of the source ID
 pub at-most-spare : (n : ℕ) (p : Telecommand) → AtMost (formSpare n) p ↔ (length (p .user) ≤ 65529 - n)

@@ -1,6 +1,6 @@
 // What the customer asks of the strict verdict, as theorems: specs/Rules.antt has the words, proofs/Demand3.antt the theorems.
 //
-// Theorems 1, 2, 4, 5, 7 and 8 are also proved here of the calls themselves: the functions below write packets of a form, in either checksum
+// Theorems 1, 2, 4, 5, 7, 8 and 9 are also proved here of the calls themselves: the functions below write packets of a form, in either checksum
 // form, and have octets judged. They are there for their contracts, and nothing calls them.
 ghost use mathlib.Core.Path.{_≡_};
 ghost use mathlib.Core.Bool.{true};
@@ -11,7 +11,7 @@ ghost use Rattle.ecss.specs.Kind.{Rules};
 ghost use Rattle.ecss_write.specs.Writer.{packetBy, Handed};
 ghost use Rattle.reserve.specs.Reserve.{finishIn, finished};
 ghost use Rattle.space_packet.specs.Answer.{gives, inBuffer};
-ghost use Rattle.exactness.specs.Demand3.{RefusesChanged, Exact, Fits, madeOf};
+ghost use Rattle.exactness.specs.Demand3.{RefusesChanged, RefusesUpToThree, Exact, Fits, madeOf};
 ghost use Rattle.tc_header.specs.Form.{formCheck};
 ghost use Rattle.tc_header.specs.Header.{tc};
 ghost use Rattle.tc_write.specs.Command.{commandIn};
@@ -140,7 +140,7 @@ fn reserved(
     }
 }
 
-// ---- theorem 5: octets are judged, and so are the same with bits of them changed
+// ---- theorems 5 and 9: octets are judged, and so are the same with bits of them changed
 
 struct Verdicts {
     sent: Verdict,
@@ -148,7 +148,9 @@ struct Verdicts {
 }
 
 fn changed(form: TcForm, sent: &[u8], received: &[u8]) -> Verdicts
-    ensures { λ r. ⌜ (formCheck form ≡ gives tt → RefusesChanged (verdictAnswer (r .sent)) (now (sent .entry)) (verdictAnswer (r .received)) (now (received .entry))) ⌝ }
+    ensures { λ r. ⌜ (formCheck form ≡ gives tt
+        → RefusesChanged (verdictAnswer (r .sent)) (now (sent .entry)) (verdictAnswer (r .received)) (now (received .entry))
+        × RefusesUpToThree (verdictAnswer (r .sent)) (now (sent .entry)) (verdictAnswer (r .received)) (now (received .entry))) ⌝ }
 {
     let first = tc_strict::judge_in(form, sent);
     let second = tc_strict::judge_in(form, received);

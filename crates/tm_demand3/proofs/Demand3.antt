@@ -19,7 +19,7 @@ use Rattle.ecss.specs.Version.{defaultConfig}
 use Rattle.ecss.specs.declared.PusVersion.the-variants.{PusC}
 use Rattle.ecss.proofs.Versions.{version-passes}
 use Rattle.ecss_write.specs.Writer.{WriterLaws, packetBy, madeBy, newBy, Handed}
-use Rattle.exactness.specs.Demand3.{RefusesChanged, Exact, totalFor, Room, Accepted, madeOf, FinishedBy}
+use Rattle.exactness.specs.Demand3.{RefusesChanged, RefusesUpToThree, Exact, totalFor, Room, Accepted, madeOf, FinishedBy}
 use Rattle.exactness.proofs.Exact.{unique, accepted}
 use Rattle.exactness.proofs.Given.{handed-rules, handed-new, handed-reserve}
 use Rattle.exactness.proofs.Demand3 as Any
@@ -153,11 +153,17 @@ module _ (t : ℕ) (good : timeLimit t ≡ gives tt) where
     Any.reserved-accepted (reportBy t) laws (reportFor t) (strictIn t) reports p before g k,
   )
 
-  -- 5. An accepted s, changed to s′ in an odd number of bits, or in some bits within a run of 16, none of them in octets 4 and 5
-  -- and all inside the stated total, is refused, whatever follows the total.
+  -- 5. An accepted s, changed to s′ in an odd number of bits, in some bits within a run of 16, or in two within a run of 32,767, none of
+  -- them in octets 4 and 5 and all inside the stated total, is refused, whatever follows the total.
   pub changed-refused : (s s′ : List ℕ) → RefusesChanged (strictIn t s) s (strictIn t s′) s′
   unfolding strictIn
   changed-refused = Any.changed-refused (timeLimit t) good (tm t) (tm-laws t) (λ z. recordIn t z true)
+
+  -- 9. An accepted s of at most 4,095 octets in total, changed to s′ in one, two or three bits, none of them in octets 4 and 5 and all
+  -- inside the stated total, is refused, whatever follows the total.
+  pub up-to-three-refused : (s s′ : List ℕ) → RefusesUpToThree (strictIn t s) s (strictIn t s′) s′
+  unfolding strictIn
+  up-to-three-refused = Any.up-to-three-refused (timeLimit t) good (tm t) (tm-laws t) (λ z. recordIn t z true)
 
   -- 6. What the verdict accepts, read and written again, is the same octets.
   pub written-again : (s : List ℕ) (r : PusTmRecord) → Octets s → strictIn t s ≡ gives r

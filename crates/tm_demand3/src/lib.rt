@@ -1,7 +1,7 @@
 // What the customer asks of the strict verdict on telemetry, as theorems: specs/Rules.antt has the words, proofs/Demand3.antt the
 // theorems.
 //
-// Theorems 1, 2, 4, 5, 7 and 8, and that nothing is accepted both as telemetry and as a telecommand, are also proved here of the calls
+// Theorems 1, 2, 4, 5, 7, 8 and 9, and that nothing is accepted both as telemetry and as a telecommand, are also proved here of the calls
 // themselves: the functions below write packets of a time length, in either checksum form, and have octets judged. They are there
 // for their contracts, and nothing calls them.
 ghost use mathlib.Core.Path.{_≡_};
@@ -12,7 +12,7 @@ ghost use Rattle.space_packet.specs.Answer.{gives};
 ghost use Rattle.ecss.specs.Kind.{Rules};
 ghost use Rattle.ecss_write.specs.Writer.{packetBy, Handed};
 ghost use Rattle.reserve.specs.Reserve.{finishIn, finished};
-ghost use Rattle.exactness.specs.Demand3.{RefusesChanged, Exact, Fits, madeOf};
+ghost use Rattle.exactness.specs.Demand3.{RefusesChanged, RefusesUpToThree, Exact, Fits, madeOf};
 ghost use Rattle.tm_header.specs.Header.{timeLimit, timed, tm};
 ghost use Rattle.tm_write.specs.Report.{reportBy};
 ghost use Rattle.tm_write.specs.Creator.{headerWith, PacketWrote};
@@ -134,7 +134,7 @@ fn reserved(
     }
 }
 
-// ---- theorem 5: octets are judged, and so are the same with bits of them changed
+// ---- theorems 5 and 9: octets are judged, and so are the same with bits of them changed
 
 struct Verdicts {
     sent: Verdict,
@@ -142,7 +142,9 @@ struct Verdicts {
 }
 
 fn changed(time_len: u8, sent: &[u8], received: &[u8]) -> Verdicts
-    ensures { λ r. ⌜ (timeLimit «time_len» ≡ gives tt → RefusesChanged (verdictAnswer (r .sent)) (now (sent .entry)) (verdictAnswer (r .received)) (now (received .entry))) ⌝ }
+    ensures { λ r. ⌜ (timeLimit «time_len» ≡ gives tt
+        → RefusesChanged (verdictAnswer (r .sent)) (now (sent .entry)) (verdictAnswer (r .received)) (now (received .entry))
+        × RefusesUpToThree (verdictAnswer (r .sent)) (now (sent .entry)) (verdictAnswer (r .received)) (now (received .entry))) ⌝ }
 {
     let first = tm_strict::judge(time_len, sent);
     let second = tm_strict::judge(time_len, received);

@@ -1,6 +1,9 @@
--- `profile_exact::changed` meets its contract: both verdicts are the profile's, of which `changed-outside` speaks.
-use mathlib.Core.Path.{sym, _∙_}
-use Rattle.profile_exact.proofs.Exactly.{changed-outside}
+-- `profile_exact::changed` meets its contract: both verdicts are the profile's, of which `changed-outside` and
+-- `up-to-three-outside` speak.
+use Rattle.detect.specs.Errors.{UpToThree}
+use Rattle.exactness.specs.Changed.{Changed, ChangedIn}
+use Rattle.exactness.proofs.Demand3.{answered}
+use Rattle.profile_exact.proofs.Exactly.{changed-outside, up-to-three-outside}
 use borrow.Author.Needs.{needs}
 use Rattle.profile_exact.proofs.changed.Statement.{statement}
 use Rattle.profile_exact.proofs.changed.Tie as tie
@@ -12,8 +15,10 @@ judge-requires-2 : tie.Need-judge-requires-2
 judge-requires-2 c κs = search needs
 
 returns : tie.Need-returns
-returns c = λ r a d.
-    let n = changed-outside _ _ r (sym (c .before .judge .ensures) ∙ a) d in (n .0, c .judge2 .ensures ∙ n .1)
+returns c = (
+  answered Changed _ _ (c .before .judge .ensures) (c .judge2 .ensures) (changed-outside _ _),
+  answered (ChangedIn UpToThree) _ _ (c .before .judge .ensures) (c .judge2 .ensures) (up-to-three-outside _ _),
+)
 
 pub changed-spec : {M : Type 1} → statement M
 changed-spec = tie.close (tie.spec judge-requires judge-requires-2 returns)
