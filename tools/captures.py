@@ -1,10 +1,10 @@
 #!/usr/bin/env python3
-"""Make the captures that the gate runs tcverdict's report on, and what it must print of each.
+"""Make the captures that the gate runs the reports of tcverdict and tcgaps on, and what each must print of them.
 
     tools/captures.py
 
-Writes crates/captures/data/*, args and stdout, and crates/tcverdict/stdin and stdout. What is printed comes from the
-model (model.py), never from the program.
+Writes crates/captures/data/*, args and stdout, and stdin and stdout of crates/tcverdict and crates/tcgaps. What is printed comes
+from the model (model.py), never from the programs.
 """
 import random
 from pathlib import Path
@@ -23,13 +23,16 @@ def packet(data=b"", first=0x19, octet_6=0x2F, service=17, subtype=1, apid=0x23,
     return content + model.be16(model.crc(content))
 
 
-def report(capture):
-    """What is printed of a capture, or of an input that cannot be read where it is None."""
-    lines = ["tcverdict 1"]
+def printed(name, body, capture):
+    """What a program prints of a capture, or of an input that cannot be read where it is None."""
     if capture is None:
-        return lines + ["cannot be read"]
-    if len(capture) > 65536:
-        return lines + ["too long"]
+        return [f"{name} 1", "cannot be read"]
+    return [f"{name} 1", *(["too long"] if len(capture) > 65536 else body(capture))]
+
+
+def verdicts(capture):
+    """The lines of tcverdict behind its first."""
+    lines = []
     for word in model.split(capture):
         at, _, rest = word.partition(":")
         if at == "end":
@@ -43,6 +46,17 @@ def report(capture):
             kind = f"refuse {kind}"
         lines.append(f"{at} {length} {kind}")
     return lines
+
+
+def gaps(capture):
+    """The lines of tcgaps behind its first: a list of 5,041 places has room for all."""
+    answer, *words = map(str, model.gaps(5041, capture))
+    many = 3 if answer == "ok" else 1
+    rows = [word.replace(":", " ") for word in words[many:] if word != "-"]
+    return rows + [" ".join(words[:many]).replace(":", " ") if answer == "ok" else answer.split(":")[1]]
+
+
+REPORTS = {"tcverdict": verdicts, "tcgaps": gaps}
 
 
 # A packet for each refusal of the strict verdict, by the name of what is wrong.
@@ -90,26 +104,58 @@ def captures():
     )
 
 
+def both(capture):
+    """What the two programs print of a capture, one after the other."""
+    return [line for name, body in REPORTS.items() for line in printed(name, body, capture)]
+
+
+# Pings with counts 5, 6, 8 and 9, one with a wrong checksum among them, and three octets more.
+EXAMPLE = P5 + packet(sequence=0xC006) + P6 + packet(sequence=0xC008) + packet(sequence=0xC009) + P5[:3]
+
+
+def uplinks():
+    """Captures with counts that follow and that do not."""
+
+    def commands(*made):
+        return b"".join(packet(first=0x18 + apid // 256, apid=apid % 256, sequence=0xC000 + count) for apid, count in made)
+
+    row = [(291, count) for count in range(5, 15)]
+    yield "no_gap", commands(*row)
+    yield "one_dropped", commands(*row[:4], *row[5:])
+    yield "one_dropped_and_a_tail", commands(*row[:4], *row[5:]) + P5[:5]
+    yield "wrap_around", commands(*((291, count % 16384) for count in range(16380, 16390)))
+    yield "dropped_at_wrap_around", commands((291, 16382), (291, 0), (291, 1))
+    yield "same_count_twice", commands((291, 5), (291, 5), (291, 6))
+    yield "backwards", commands((291, 6), (291, 5), (291, 4))
+    yield "two_apids", commands(*((apid, count) for count in range(5) for apid in (291, 2046)))
+    yield "dropped_of_two_apids", commands((291, 0), (292, 9), (291, 1), (292, 11), (291, 3), (292, 12), (291, 4))
+    yield "refused_between", commands((291, 5)) + b"".join(REFUSED.values()) + commands((291, 6)) + REFUSED["checksum"] + commands((291, 8))
+    once = [(apid, 7) for apid in range(0, 66 * 31, 31)]
+    yield "apids_64", commands(*once[:64], (0, 8), (31, 9))
+    yield "apids_65", commands(*once[:65], (0, 9))
+    yield "gap_before_apids_65", commands(*once[:3], (0, 9), *once[3:66], (31, 9))
+
+
 def main():
     folder = CRATES / "captures/data"
     folder.mkdir(parents=True, exist_ok=True)
     for old in folder.iterdir():
         old.unlink()
     names, lines = [], []
-    for name, capture in captures():
+    for name, capture in (*captures(), *uplinks()):
         names.append(name)
         (folder / name).write_bytes(capture)
-        lines += [f"== {name}", *report(capture)]
+        lines += [f"== {name}", *both(capture)]
     # A folder can be opened, and every read of it fails.
     names.append(".")
-    lines += ["== .", *report(None)]
+    lines += ["== .", *both(None)]
     names.append("missing")
     lines += ["== missing", "cannot be opened"]
     (CRATES / "captures/args").write_text("\n".join(names) + "\n")
     (CRATES / "captures/stdout").write_text("\n".join(lines) + "\n")
-    example = P5 + P6 + P5[:3]
-    (CRATES / "tcverdict/stdin").write_bytes(example)
-    (CRATES / "tcverdict/stdout").write_text("\n".join(report(example)) + "\n")
+    for program, example in ("tcverdict", P5 + P6 + P5[:3]), ("tcgaps", EXAMPLE):
+        (CRATES / program / "stdin").write_bytes(example)
+        (CRATES / program / "stdout").write_text("\n".join(printed(program, REPORTS[program], example)) + "\n")
 
 
 if __name__ == "__main__":

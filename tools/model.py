@@ -4,8 +4,9 @@
 It speaks the protocol of docs/PROTOCOL.md, one request a line in and one answer a line out, and was written from the
 layout, the table of refusals and the orders of refusals, without a look at the port or at the crate. The checksum is
 Python's own, binascii.crc_hqx. Unlike the crate it also has an answer outside the domain of equality (a field over its
-width, a version other than C, a total above 65,542 octets), to `strict`, `split`, `track`, `best`, `params`, `wparams`, `profile` and `pbuild`, and to requests in
-PUS A, with spare octets and of telemetry. What is open it works out from all calls so far, each time anew.
+width, a version other than C, a total above 65,542 octets), to `strict`, `split`, `track`, `best`, `params`, `wparams`,
+`profile`, `pbuild` and `gaps`, and to requests in PUS A, with spare octets and of telemetry. What is open it works out from all
+calls so far, each time anew.
 
     tools/model.py <requests >answers
 """
@@ -594,6 +595,27 @@ def profile_build(setters, data):
     return creator
 
 
+# Gaps in a recorded uplink.
+
+def gaps(places, octets):
+    """31 at the first accepted command of a 65th APID; 1 at a gap that the list has no place for. What was listed stands."""
+    totals, lasts, rows = {'accepted': 0, 'refused': 0, 'tail': 0}, {}, []
+    try:
+        for at, size, kind in (word.split(':') for word in split(octets)[:-1]):
+            if kind == 'accept':
+                sp = Sp.read(octets[int(at):int(at) + 6])
+                refuse_if(sp.apid not in lasts and len(lasts) == 64, 31)
+                expected = (lasts.get(sp.apid, sp.scount - 1) + 1) % 16384        # the first starts its APID
+                if sp.scount != expected:
+                    refuse_if(len(rows) == places, 1, places, places + 1)
+                    rows.append(f'{sp.apid}:{expected}:{sp.scount}')
+                lasts[sp.apid] = sp.scount
+            totals[{'accept': 'accepted', 'tail': 'tail'}.get(kind, 'refused')] += int(size)
+    except Refused as refusal:
+        return [refusal, '-', *(rows or '-')]
+    return ['ok', *(f'{name}:{count}' for name, count in totals.items()), *(rows or '-')]
+
+
 # The words of the protocol.
 
 def text(octets):
@@ -871,6 +893,7 @@ REQUESTS = {
     'wparams': (wparams, [LIST, PAIRS, DATA]),
     'profile': (do_profile, [DATA]),
     'pbuild': (do_pbuild, [PROFILE_SETTERS, DATA, DATA]),
+    'gaps': (gaps, [U16, DATA]),
 }
 IN_PUS_A = {kind: REQUESTS[kind] for kind in ('read', 'create', 'build', 'strict')}
 IN_PUS_C = IN_PUS_A | {kind: REQUESTS[kind] for kind in ('reserve', 'split', 'cmprc', 'cmprr')}

@@ -23,6 +23,8 @@ out at every run.
              everywhere, the orders of refusals, faults of the list, 255 pairs, and the grammar of both
     profile  the small-satellite profile, judged and built: each rule at its edges, rules broken together, faults that stand before
              them, bits changed in an accepted packet, and the grammar
+    gaps     captures with counts that follow and that do not, at the edges and around 16,383; 63 to 66 APIDs; refused packets
+             between, tails, random captures, each with lists of no place and of some; and the grammar
 
     tools/vectors.py FOLDER
 """
@@ -831,6 +833,92 @@ def best_grammar(packet):
         yield f'best 7 {packet} {octets}'
 
 
+def commands(*made):
+    """A capture of commands, each an APID and a sequence count."""
+    return b''.join(command(count, 9, apid)[0] for apid, count in made)
+
+
+def gaps_requests(rng):
+    for request in (*gaps_counts(), *gaps_apids(), *gaps_between(rng)):
+        yield from (f'gaps {places} {text(request)}' for places in (0, 1, 2, 65535))
+    yield from (gaps_capture(rng) for _ in range(150))
+    yield from gaps_grammar()
+
+
+def gaps_counts():
+    """Each count at an edge after each; rows of counts, with one dropped, doubled or late by one place; two APIDs interleaved."""
+    counts = 0, 1, 2, 255, 256, 8191, 8192, 16382, 16383
+    yield from (commands((291, one), (291, other)) for one, other in itertools.product(counts, repeat=2))
+    for first in 0, 5, 16380, 16382, 16383:
+        counts = [(first + more) % 16384 for more in range(6)]
+        yield commands(*((291, count) for count in counts))
+        for at in range(6):
+            yield commands(*((291, count) for count in counts[:at] + counts[at + 1:]))
+            yield commands(*((291, count) for count in counts[:at] + counts[at:at + 1] + counts[at:]))
+        for at in range(5):
+            yield commands(*((291, count) for count in counts[:at] + counts[at:at + 2][::-1] + counts[at + 2:]))
+        yield commands(*((291, count) for count in counts[::-1]))
+        pairs = [(apid, count) for count in counts for apid in (291, 292)]
+        yield commands(*pairs)
+        yield from (commands(*pairs[:at], *pairs[at + 1:]) for at in range(12))
+    yield commands((0, 1), (2046, 1), (0, 2), (2046, 3), (1023, 9), (0, 3), (2046, 4), (1023, 9))
+
+
+def gaps_apids():
+    """63 to 66 APIDs, then each of them again; a gap before the 65th, and behind it."""
+    for count in 63, 64, 65, 66:
+        once = [(apid * 31, apid) for apid in range(count)]
+        yield commands(*once)
+        for at in 0, 62, 63, 64:
+            apid, last = once[min(at, count - 1)]
+            yield commands(*once, (apid, last + 1), (apid, last + 3))
+            yield commands(*once[:at], (0, 7), *once[at:], (apid, last))
+        yield commands(*once, *((apid, last + 1) for apid, last in once))
+        yield commands(*once[:64], (2046, 5), (0, 9), (2046, 6))
+        yield commands(*once[:64], (0, 9), (2046, 5))
+
+
+def gaps_between(rng):
+    """Refused packets between, a tail of each length, and nothing else."""
+    one, two, three = (command(count, 9)[0] for count in (5, 6, 7))
+    for fault in FAULTS:
+        wrong = faulty(tc(b'\x01\x02', (0, 1, 1, 291, 3, 6, 0)), [fault])
+        wrong = wrong[:4] + be16(len(wrong) - 7) + wrong[6:]          # whole by its length, whatever else
+        yield from (one + wrong + three, one + wrong + two, wrong + one + two, one + two + wrong, wrong, wrong + wrong)
+    report = tm(telemetry(0), b'', (0, 0, 1, 291, 3, 6, 0))
+    yield from (one + report + two, one + report + three, report)
+    yield from (one + three + two[:length] for length in range(14))
+    yield from (two[:length] for length in range(13))
+    yield one + tc(rng.randbytes(300), (0, 1, 1, 291, 0, 6, 0)) + three
+    yield from (one + bytes(length) + three for length in (1, 7, 14, 15))
+    yield rng.randbytes(400)
+
+
+def gaps_capture(rng, most=90):
+    """Commands by chance: counts that mostly follow, few APIDs or many, refused packets between, a tail; lists of all sizes."""
+    pool, counts, capture = rng.choice((1, 2, 5, 64, 65, 70, 300)), {}, b''
+    start = rng.choice((0, 100, 16370, 16383))
+    for _ in range(rng.randint(0, most)):
+        apid = rng.randrange(pool)
+        counts[apid] = (counts.get(apid, start) + rng.choice((1, 1, 1, 1, 1, 1, 0, 2, 3, 16383))) % 16384
+        packet = tc(rng.randbytes(rng.choice((0, 0, 0, 1, 9))), (0, 1, 1, apid, rng.randrange(4), counts[apid], 0))
+        way = rng.random()
+        if way < 0.05:
+            packet = packet[:-1] + bytes([packet[-1] ^ 1])
+        elif way < 0.1:
+            packet = with_octet(packet, rng.choice((0, 6)), rng.randrange(256))
+        capture += packet
+    capture += rng.randbytes(rng.choice((0, 0, 1, 5, 6, 12)))
+    return f'gaps {rng.choice((0, 1, 2, 5, 90, 65535))} {text(capture)}'
+
+
+def gaps_grammar():
+    yield from ('gaps', 'gaps ', 'gaps 0', 'gaps 0 ', 'gaps 0 - -', 'gaps  0 -', 'gaps -', 'gaps - -', 'gaps -1 -', 'gaps 65536 -',
+                'gaps 007 -', 'gaps 0x0 -', 'gaps 00000000000000065535 -', 'gaps 000000000000000065535 -', 'Gaps 0 -', 'gap 0 -',
+                'gaps0 -', 'in a8 gaps 0 -', 'in c0 gaps 0 -', 'in t7 gaps 0 -', 'gaps 0 in', 'gaps 0, -', 'gaps 0 0', 'gaps 0 ab',
+                'gaps 0 0G', 'gaps 0 00-', 'gaps 65536 0', f'gaps 0 {P5}', f'gaps 0 {P5[:-1]}', f'gaps 0 {P5.lower()}', f'gaps {P5}')
+
+
 def spare_requests(rng):
     parts = spare_readings, spare_verdicts, spare_writings, spare_orders, spare_reservations, spare_comparisons, spare_splits
     for spare in range(5):
@@ -1224,7 +1312,7 @@ def profile_grammar():
 FILES = {'crc': crc_requests, 'header': header_requests, 'write': write_requests, 'limits': limits_requests,
          'read': read_requests, 'strict': strict_requests, 'grammar': grammar_requests, 'pus_a': pus_a_requests,
          'telemetry': telemetry_requests, 'track': track_requests, 'best': best_requests, 'spare': spare_requests,
-         'params': params_requests, 'profile': profile_requests}
+         'params': params_requests, 'profile': profile_requests, 'gaps': gaps_requests}
 
 
 def main():

@@ -11,6 +11,7 @@ mod show;
 mod tailored;
 mod telemetry;
 mod track;
+mod uplink;
 mod verdict;
 mod write;
 
@@ -50,6 +51,9 @@ fn reply(line: &[u8], a: &mut [u8], b: &mut [u8]) {
     }
     if check::same(text::piece(line, 32, 0), b"wparams") {
         return parameters::write(line, a);
+    }
+    if check::same(text::piece(line, 32, 0), b"gaps") {
+        return uplink::reply(line, a, b);
     }
     reply_to(Form::Tc(TcForm::PUS_C), kind(line), line, a, b)
 }

@@ -1,12 +1,10 @@
 -- The report of tcverdict, to the last character.
-use Prim.Native.Nat.{ℕ, _+_, _*_, _≤_}
-use mathlib.Core.Path.{_≡_}
+use Prim.Native.Nat.{ℕ, _+_, _*_}
 use mathlib.Core.List.{List, [], _∷_, _++_}
-use lib.ListN.{length, take}
+use lib.ListN.{length}
 use lib.Dec.{ltb}
 use Rattle.text.specs.Ascii.{ascii}
 use Rattle.text.specs.Digits.{decimal}
-use Rattle.text.specs.Page.{page, atStart}
 use Rattle.space_packet.specs.Answer.{Answer, gives, refuses}
 use Rattle.space_packet.specs.Bits.{pick}
 use Rattle.tc_read.specs.declared.PusTcRecord.{PusTcRecord}
@@ -47,13 +45,6 @@ reportText capture = ascii "tcverdict 1\n" ++ bodyText capture
 -- more than 4 for each of its 7 octets or more; a tail's has 17 at most, which is 13 more than 4 for an octet
 abbrev pub room : ℕ
 room = 12 + 4 * 65536 + 13 + 10
-
--- what putting a report at the start of the buffer `before` answers and leaves
-pub record Rendered (capture before : List ℕ) (n : ℕ) (after : List ℕ) : Type 0 where
-  -- as much of the report as there is room for, and its length; behind it what was there
-  pub shown : page after n ≡ atStart before (take (length before) (reportText capture))
-  -- which is all of it where there are `room` octets
-  pub whole : length (reportText capture) ≤ room
 
 -- ---- one step
 

@@ -6,9 +6,10 @@ ghost use Rattle.io.specs.Counts.{Counts};
 ghost use Rattle.text.specs.Page.{page, laid};
 ghost use Rattle.tc_strict.specs.Verdict.{verdictAnswer};
 ghost use Rattle.tc_strict.specs.Split.{stepAnswer, walk};
-ghost use Rattle.report.specs.Report.{twoText, verdictText, stepText, behind, linesOf, bodyText, Rendered, room};
-ghost use Rattle.report.specs.Program.{inputOf, Within, printed};
-use libc::EINTR;
+ghost use Rattle.input.specs.Printing.{Rendered};
+ghost use Rattle.report.specs.Report.{twoText, verdictText, stepText, behind, linesOf, bodyText, reportText, room};
+ghost use Rattle.report.specs.Program.{printed};
+use input::Input;
 use libc::STDOUT_FILENO;
 use tc_strict::Verdict;
 use tc_strict::split::Cursor;
@@ -123,79 +124,10 @@ fn put_body(out: &mut [u8], at: usize, capture: &[u8]) -> usize
 
 // Puts the report of a capture at the start of out, and answers how many characters it has; what has no room is left out.
 pub fn render(capture: &[u8], out: &mut [u8]) -> usize
-    ensures { λ r. ⌜ Rendered (now (capture .entry)) (now (out .entry)) r (now (out .exit)) ⌝ }
+    ensures { λ r. ⌜ Rendered room (reportText (now (capture .entry))) (now (out .entry)) r (now (out .exit)) ⌝ }
 {
     let n = text::put_text(out, 0, b"tcverdict 1\n");
     put_body(out, n, capture)
-}
-
-// ---- what is read
-
-// What reading came to: so many octets, none at the end of the input, or that it failed.
-enum Input {
-    Octets(usize),
-    Failed,
-}
-
-// What the system's answer to a read says. It alone tells of a failure: a read after a failed one may find the end.
-fn told(answer: isize) -> Input
-    ensures { λ r. ⌜ r ≡ inputOf answer ⌝ }
-{
-    if answer < 0 {
-        return Input::Failed;
-    }
-    Input::Octets(answer as usize)
-}
-
-fn read_once(fd: i32, space: &mut [u8]) -> Input
-    ensures { λ r. ⌜ Within r (length (now (space .entry))) ⌝ }
-{
-    let answer = libc::read(fd, space);
-    told(answer)
-}
-
-// Whether a signal interrupted the read that was just made.
-fn interrupted(got: Input) -> bool {
-    match got {
-        Input::Octets(_) => false,
-        Input::Failed => os::errno() == EINTR,
-    }
-}
-
-// How often in a row a read is tried that signals interrupt.
-const TRIES: usize = 1000;
-
-// Reads some octets, and tries again where a signal interrupted it.
-fn read_some(fd: i32, space: &mut [u8]) -> Input
-    ensures { λ r. ⌜ Within r (length (now (space .entry))) ⌝ }
-{
-    let mut tries: usize = 1;
-    while tries < TRIES {
-        let got = read_once(fd, space);
-        if !interrupted(got) {
-            return got;
-        }
-        tries += 1;
-    }
-    read_once(fd, space)
-}
-
-// Reads until the input ends, buf is full or a read fails.
-fn read_input(fd: i32, buf: &mut [u8]) -> Input
-    ensures { λ r. ⌜ Within r (length (now (buf .entry))) ⌝ }
-{
-    let mut n: usize = 0;
-    while n < buf.len() {
-        let got = read_some(fd, &mut buf[n..]);
-        let Input::Octets(more) = got else {
-            return got;
-        };
-        if more == 0 {
-            return Input::Octets(n);
-        }
-        n += more;
-    }
-    Input::Octets(n)
 }
 
 // ---- what is printed
@@ -227,7 +159,7 @@ pub fn run(fd: i32)
     ensures { λ r. ⌜ r ≡ tt ⌝ }
 {
     let mut buf = [0u8; 65537];
-    let input = read_input(fd, &mut buf);
+    let input = input::read_input(fd, &mut buf);
     let mut out = [0u8; ROOM];
     let n = answer(input, &buf, &mut out);
     print(input, &buf, &out[..n]);

@@ -181,7 +181,8 @@ errorOf n =
     (pick (eqb (n .number) 27) E.ProfileApid
     (pick (eqb (n .number) 28) E.ProfileService
     (pick (eqb (n .number) 29) E.ProfileAcceptance
-    (pick (eqb (n .number) 30) E.ProfileData E.SourceWidth))))))))))))))))))))))))))))
+    (pick (eqb (n .number) 30) E.ProfileData
+    (pick (eqb (n .number) 31) E.TooManyApids E.SourceWidth)))))))))))))))))))))))))))))
 
 pub error-back : (e : PusError) → errorOf (numbersOf e) ≡ e
 unfolding errorOf
@@ -214,6 +215,7 @@ error-back E.ProfileApid = refl
 error-back E.ProfileService = refl
 error-back E.ProfileAcceptance = refl
 error-back E.ProfileData = refl
+error-back E.TooManyApids = refl
 error-back E.SourceWidth = refl
 
 pub numbers-inj : (e f : PusError) → numbersOf e ≡ numbersOf f → e ≡ f
@@ -250,6 +252,7 @@ not-five E.ProfileApid = refl
 not-five E.ProfileService = refl
 not-five E.ProfileAcceptance = refl
 not-five E.ProfileData = refl
+not-five E.TooManyApids = refl
 not-five E.SourceWidth = refl
 
 pub no-five : (e : PusError) → numbersOf e .number ≡ 5 → ⊥

@@ -86,6 +86,7 @@ numbersOf E.ProfileApid = refusal 27 []
 numbersOf E.ProfileService = refusal 28 []
 numbersOf E.ProfileAcceptance = refusal 29 []
 numbersOf E.ProfileData = refusal 30 []
+numbersOf E.TooManyApids = refusal 31 []
 numbersOf E.SourceWidth = refusal 32 []
 
 -- written out, with 0 for a value that it has not

@@ -83,6 +83,8 @@ pub enum PusError {
     ProfileAcceptance,
     // 30: data with service 17
     ProfileData,
+    // 31: a 65th APID
+    TooManyApids,
     // 32: a source ID of another width than 0, 8 and 16 bits
     SourceWidth,
 }
@@ -157,6 +159,7 @@ impl PusError {
             PusError::ProfileService => in_numbers(28, 0, 0, 0),
             PusError::ProfileAcceptance => in_numbers(29, 0, 0, 0),
             PusError::ProfileData => in_numbers(30, 0, 0, 0),
+            PusError::TooManyApids => in_numbers(31, 0, 0, 0),
             PusError::SourceWidth => in_numbers(32, 0, 0, 0),
         }
     }

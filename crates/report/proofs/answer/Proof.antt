@@ -1,8 +1,10 @@
 -- `report::answer` meets its contract: the report of what was read, or that it cannot be read.
 use mathlib.Core.Path.{_∙_}
 use native.Mathlib.Omega.{arith}
-use Rattle.report.proofs.Readings.{printed-octets, printed-failed}
-use Rattle.report.proofs.Shown.{laid-counts, laid-text, rendered-counts, rendered-text}
+use Rattle.input.proofs.Readings.{printed-octets, printed-failed}
+use Rattle.text.specs.Ascii.{ascii}
+use Rattle.report.specs.Report.{reportText}
+use Rattle.input.proofs.Shown.{laid-counts, laid-text, rendered-counts, rendered-text}
 use borrow.Author.Needs.{needs}
 use Rattle.report.proofs.answer.Statement.{statement}
 use Rattle.report.proofs.answer.Tie as tie
@@ -32,7 +34,7 @@ returns : tie.Need-returns
 returns c =
     let r = c .before .before .render .ensures in
     let room = c .before .before .before .before .before .before .before .before .before .before .pre in
-    (rendered-counts r room, rendered-text r room ∙ printed-octets _ _ _ _ (c .before .before .before .before .before .before .input .given .1) (c .before .before .before .before .part .ensures))
+    (rendered-counts r room, rendered-text r room ∙ printed-octets (ascii "tcverdict 1\n") reportText _ _ _ _ (c .before .before .before .before .before .before .input .given .1) (c .before .before .before .before .part .ensures))
 
 same-length-2 : tie.Need-same-length-2
 same-length-2 c = search needs
@@ -41,7 +43,7 @@ returns-2 : tie.Need-returns-2
 returns-2 c =
     let e = c .before .before .put-text .ensures in
     let room = c .before .before .before .before .before .before .before .before .before .pre in
-    (laid-counts _ _ _ _ e (omega (arith, room)), laid-text _ _ _ _ e (omega (arith, room)) ∙ printed-failed _ _ (c .before .before .before .before .before .enum-told .given .1))
+    (laid-counts _ _ _ _ e (omega (arith, room)), laid-text _ _ _ _ e (omega (arith, room)) ∙ printed-failed (ascii "tcverdict 1\n") reportText _ _ (c .before .before .before .before .before .enum-told .given .1))
 
 pub answer-spec : {M : Type 1} → statement M
 answer-spec =

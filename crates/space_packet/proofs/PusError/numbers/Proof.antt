@@ -202,6 +202,12 @@ enum-told-23 c = search needs
 in-numbers-requires-28 : tie.Need-in-numbers-requires-28
 in-numbers-requires-28 c κs = search needs
 
+enum-told-24 : tie.Need-enum-told-24
+enum-told-24 c = search needs
+
+in-numbers-requires-29 : tie.Need-in-numbers-requires-29
+in-numbers-requires-29 c κs = search needs
+
 returns : tie.Need-returns
 returns c = told (c .numbers .ensures) (c .before .before .self .given .1)
 
@@ -289,6 +295,9 @@ returns-28 c = told (c .in-numbers27 .ensures) (c .before .enum-told22 .given .1
 returns-29 : tie.Need-returns-29
 returns-29 c = told (c .in-numbers28 .ensures) (c .before .enum-told23 .given .1)
 
+returns-30 : tie.Need-returns-30
+returns-30 c = told (c .in-numbers29 .ensures) (c .before .enum-told24 .given .1)
+
 pub numbers-spec : {M : Type 1} → statement M
 numbers-spec =
     tie.close
@@ -357,6 +366,8 @@ numbers-spec =
     in-numbers-requires-27
     enum-told-23
     in-numbers-requires-28
+    enum-told-24
+    in-numbers-requires-29
     returns
     returns-2
     returns-3
@@ -385,4 +396,5 @@ numbers-spec =
     returns-26
     returns-27
     returns-28
-    returns-29)
+    returns-29
+    returns-30)

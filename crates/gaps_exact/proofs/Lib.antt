@@ -1,0 +1,9 @@
+pub mod Captures
+pub mod Follows
+pub mod History
+pub mod Limits
+pub mod Listed
+pub mod Reasons
+pub mod Refusals
+pub mod Sums
+pub mod Tables

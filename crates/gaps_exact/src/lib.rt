@@ -1,0 +1,1 @@
+// What the list of gaps tells: theorems only, in proofs/.

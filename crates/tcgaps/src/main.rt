@@ -1,0 +1,4 @@
+// Lists the gaps of standard input.
+fn main() {
+    gap_report::run(libc::STDIN_FILENO);
+}
