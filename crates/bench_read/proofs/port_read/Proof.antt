@@ -6,18 +6,6 @@ use borrow.Author.Needs.{needs}
 use Rattle.bench_read.proofs.port_read.Statement.{statement}
 use Rattle.bench_read.proofs.port_read.Tie as tie
 
-new-requires : tie.Need-new-requires
-new-requires c κs = search needs
-
-enum-told : tie.Need-enum-told
-enum-told c = search needs
-
-enum-known-read : tie.Need-enum-known-read
-enum-known-read c = search needs
-
-sum-requires : tie.Need-sum-requires
-sum-requires c κs = search needs
-
 returns : tie.Need-returns
 returns c = sym (ap readNumber (sym (c .before .before .new .ensures) ∙ ap recordAnswer (c .enum-told .given .1)))
 
@@ -27,4 +15,4 @@ returns-2 c =
 
 pub port-read-spec : {M : Type 1} → statement M
 port-read-spec =
-    tie.close (tie.spec new-requires enum-told enum-known-read sum-requires returns returns-2)
+    tie.close (tie.spec (λ c κs. search needs) (λ c. search needs) (λ c. search needs) (λ c κs. search needs) returns returns-2)

@@ -8,24 +8,6 @@ use borrow.Author.Needs.{needs}
 use Rattle.bench_split.proofs.port_step.Statement.{statement}
 use Rattle.bench_split.proofs.port_step.Tie as tie
 
-step-requires : tie.Need-step-requires
-step-requires c κs = search needs
-
-enum-told : tie.Need-enum-told
-enum-told c = search needs
-
-enum-told-2 : tie.Need-enum-told-2
-enum-told-2 c = search needs
-
-enum-known-step : tie.Need-enum-known-step
-enum-known-step c = search needs
-
-enum-told-3 : tie.Need-enum-told-3
-enum-told-3 c = search needs
-
-enum-told-4 : tie.Need-enum-told-4
-enum-told-4 c = search needs
-
 returns : tie.Need-returns
 returns c = sym (ap stepNumber (sym (c .before .before .step .ensures) ∙ ap stepAnswer (c .enum-told .given .1)))
 
@@ -46,12 +28,12 @@ pub port-step-spec : {M : Type 1} → statement M
 port-step-spec =
     tie.close
     (tie.spec
-    step-requires
-    enum-told
-    enum-told-2
-    enum-known-step
-    enum-told-3
-    enum-told-4
+    (λ c κs. search needs)
+    (λ c. search needs)
+    (λ c. search needs)
+    (λ c. search needs)
+    (λ c. search needs)
+    (λ c. search needs)
     returns
     returns-2
     returns-3

@@ -9,40 +9,16 @@ use borrow.Author.Needs.{needs}
 use Rattle.bench_write.proofs.port_write.Statement.{statement}
 use Rattle.bench_write.proofs.port_write.Tie as tie
 
-made-requires : tie.Need-made-requires
-made-requires c κs = search needs
-
-enum-told : tie.Need-enum-told
-enum-told c = search needs
-
-enum-known-command : tie.Need-enum-known-command
-enum-known-command c = search needs
-
-write-to-slice-requires : tie.Need-write-to-slice-requires
-write-to-slice-requires c κs = search needs
-
-enum-told-2 : tie.Need-enum-told-2
-enum-told-2 c = search needs
-
-enum-known-written : tie.Need-enum-known-written
-enum-known-written c = search needs
-
 returns : tie.Need-returns
 returns c =
     let a = c .before .before .before .before .before .args in
     not-made _ (a .«data» .now) (a .buf .now) _ (sym (c .before .before .made .ensures) ∙ ap creatorAnswer (c .enum-told .given .1))
-
-same-length : tie.Need-same-length
-same-length c = search needs
 
 returns-2 : tie.Need-returns-2
 returns-2 c =
     let m = sym (c .before .before .before .before .before .before .before .before .before .made .ensures) ∙ ap creatorAnswer (c .before .before .before .before .before .before .before .command .given .1) in
     let g = made-written _ _ _ _ _ _ m (c .before .before .before .before .write-to-slice .ensures) in
     (sym (ap (λ (r : SizeResult). sizeNumber (sizeAnswer r)) (c .enum-told2 .given .1)) ∙ g .0, g .1)
-
-same-length-2 : tie.Need-same-length-2
-same-length-2 c = search needs
 
 returns-3 : tie.Need-returns-3
 returns-3 c =
@@ -54,14 +30,14 @@ pub port-write-spec : {M : Type 1} → statement M
 port-write-spec =
     tie.close
     (tie.spec
-    made-requires
-    enum-told
-    enum-known-command
-    write-to-slice-requires
-    enum-told-2
-    enum-known-written
+    (λ c κs. search needs)
+    (λ c. search needs)
+    (λ c. search needs)
+    (λ c κs. search needs)
+    (λ c. search needs)
+    (λ c. search needs)
     returns
-    same-length
+    (λ c. search needs)
     returns-2
-    same-length-2
+    (λ c. search needs)
     returns-3)

@@ -8,12 +8,6 @@ use Rattle.crc_register.proofs.Octet.{by-halves}
 use Rattle.crc_register.proofs.table_octet.Statement.{statement}
 use Rattle.crc_register.proofs.table_octet.Tie as tie
 
-table-half-requires : tie.Need-table-half-requires
-table-half-requires c κs = search needs
-
-table-half-requires-2 : tie.Need-table-half-requires-2
-table-half-requires-2 c κs = search needs
-
 returns : tie.Need-returns
 returns c =
     let a = c .before .before .args in
@@ -22,4 +16,4 @@ returns c =
     ∙ by-halves (a .r) (a .b)
 
 pub table-octet-spec : {M : Type 1} → statement M
-table-octet-spec = tie.close (tie.spec table-half-requires table-half-requires-2 returns)
+table-octet-spec = tie.close (tie.spec (λ c κs. search needs) (λ c κs. search needs) returns)

@@ -7,12 +7,9 @@ use borrow.Author.Needs.{needs}
 use Rattle.ecss.proofs.octet_back.Statement.{statement}
 use Rattle.ecss.proofs.octet_back.Tie as tie
 
-no-table-octet-requires : tie.Need-no-table-octet-requires
-no-table-octet-requires c κs = search needs
-
 returns : tie.Need-returns
 unfolding _⊕_ indexOf
 returns c = let a = c .before .args in λ p h e. step-undone p (a .b) (a .r) _ _ h (omega arith) e refl (c .no-table-octet .ensures)
 
 pub octet-back-spec : {M : Type 1} → statement M
-octet-back-spec = tie.close (tie.spec no-table-octet-requires returns)
+octet-back-spec = tie.close (tie.spec (λ c κs. search needs) returns)

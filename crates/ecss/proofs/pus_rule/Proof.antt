@@ -24,21 +24,9 @@ returns : tie.Need-returns
 unfolding pusRule refuseIf
 returns c = simp (ne-eqb _ _ (c .if1 .taken))
 
-packet-type-requires : tie.Need-packet-type-requires
-packet-type-requires c κs = search needs
-
-raw-value-requires : tie.Need-raw-value-requires
-raw-value-requires c κs = search needs
-
-raw-value-requires-2 : tie.Need-raw-value-requires-2
-raw-value-requires-2 c κs = search needs
-
 returns-2 : tie.Need-returns-2
 unfolding pusRule refuseIf
 returns-2 c = simp (eq-eqb _ _ (c .before .before .before .before .if1 .left), types _ _ _ _ _ (c .before .before .raw-value .ensures ∙ ap typeNumber (c .before .before .before .packet-type .ensures)) (c .before .raw-value2 .ensures) (ne-eqb _ _ (c .if2 .taken)))
-
-sec-header-flag-requires : tie.Need-sec-header-flag-requires
-sec-header-flag-requires c κs = search needs
 
 returns-3 : tie.Need-returns-3
 unfolding pusRule refuseIf
@@ -47,12 +35,6 @@ returns-3 c = simp (eq-eqb _ _ (c .before .before .before .before .before .befor
 returns-4 : tie.Need-returns-4
 unfolding pusRule refuseIf
 returns-4 c = simp (eq-eqb _ _ (c .before .before .before .before .before .before .before .if1 .left), types _ _ _ _ _ (c .before .before .before .before .before .raw-value .ensures ∙ ap typeNumber (c .before .before .before .before .before .before .packet-type .ensures)) (c .before .before .before .before .raw-value2 .ensures) (eq-eqb _ _ (c .before .before .before .if2 .left)), sym (c .before .before .sec-header-flag .ensures) ∙ not-false (c .before .before .sec-header-flag .result) (c .before .if3 .left), ne-eqb _ _ (c .if4 .taken))
-
-apid-requires : tie.Need-apid-requires
-apid-requires c κs = search needs
-
-is-idle-requires : tie.Need-is-idle-requires
-is-idle-requires c κs = search needs
 
 returns-5 : tie.Need-returns-5
 unfolding pusRule refuseIf
@@ -73,14 +55,14 @@ pus-rule-spec =
     tie.close
     (tie.spec
     returns
-    packet-type-requires
-    raw-value-requires
-    raw-value-requires-2
+    (λ c κs. search needs)
+    (λ c κs. search needs)
+    (λ c κs. search needs)
     returns-2
-    sec-header-flag-requires
+    (λ c κs. search needs)
     returns-3
     returns-4
-    apid-requires
-    is-idle-requires
+    (λ c κs. search needs)
+    (λ c κs. search needs)
     returns-5
     returns-6)

@@ -6,11 +6,8 @@ use borrow.Author.Needs.{needs}
 use Rattle.ecss.proofs.verify_crc16_ccitt_false_from_raw.Statement.{statement}
 use Rattle.ecss.proofs.verify_crc16_ccitt_false_from_raw.Tie as tie
 
-crc-ccitt-false-no-table-requires : tie.Need-crc-ccitt-false-no-table-requires
-crc-ccitt-false-no-table-requires c κs = search needs
-
 returns : tie.Need-returns
 returns c = ap (λ (x : ℕ). eqb x 0) (c .crc-ccitt-false-no-table .ensures)
 
 pub verify-crc16-ccitt-false-from-raw-spec : {M : Type 1} → statement M
-verify-crc16-ccitt-false-from-raw-spec = tie.close (tie.spec crc-ccitt-false-no-table-requires returns)
+verify-crc16-ccitt-false-from-raw-spec = tie.close (tie.spec (λ c κs. search needs) returns)

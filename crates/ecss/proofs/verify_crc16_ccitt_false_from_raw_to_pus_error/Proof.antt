@@ -17,26 +17,8 @@ use Rattle.ecss.proofs.verify_crc16_ccitt_false_from_raw_to_pus_error.T
 returns : tie.Need-returns
 returns c = sym (refuse-yes _ _ _ (lt-ltb _ _ (c .if1 .taken)))
 
-crc-ccitt-false-no-table-requires : tie.Need-crc-ccitt-false-no-table-requires
-crc-ccitt-false-no-table-requires c κs = search needs
-
 returns-2 : tie.Need-returns-2
 returns-2 c = sym (verified-passes _ _ (c .before .before .if1 .left) (sym (c .before .crc-ccitt-false-no-table .ensures) ∙ c .if2 .taken))
-
-sub-octet-back : tie.Need-sub-octet-back
-sub-octet-back c = search needs
-
-shared-slice-read-octet-back : tie.Need-shared-slice-read-octet-back
-shared-slice-read-octet-back c = search needs
-
-octet-back-requires : tie.Need-octet-back-requires
-octet-back-requires c κs = search needs
-
-shared-slice-read-octet-back-2 : tie.Need-shared-slice-read-octet-back-2
-shared-slice-read-octet-back-2 c = search needs
-
-octet-back-requires-2 : tie.Need-octet-back-requires-2
-octet-back-requires-2 c κs = search needs
 
 returns-3 : tie.Need-returns-3
 returns-3 c =
@@ -55,11 +37,11 @@ verify-crc16-ccitt-false-from-raw-to-pus-error-spec =
     tie.close
     (tie.spec
     returns
-    crc-ccitt-false-no-table-requires
+    (λ c κs. search needs)
     returns-2
-    sub-octet-back
-    shared-slice-read-octet-back
-    octet-back-requires
-    shared-slice-read-octet-back-2
-    octet-back-requires-2
+    (λ c. search needs)
+    (λ c. search needs)
+    (λ c κs. search needs)
+    (λ c. search needs)
+    (λ c κs. search needs)
     returns-3)

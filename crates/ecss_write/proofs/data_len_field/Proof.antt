@@ -8,18 +8,6 @@ use borrow.Author.Needs.{needs}
 use Rattle.ecss_write.proofs.data_len_field.Statement.{statement}
 use Rattle.ecss_write.proofs.data_len_field.Tie as tie
 
-total-of-requires : tie.Need-total-of-requires
-total-of-requires c κs = search needs
-
-within-limit-requires : tie.Need-within-limit-requires
-within-limit-requires c κs = search needs
-
-enum-known-t : tie.Need-enum-known-t
-enum-known-t c = search needs
-
-enum-known-t-2 : tie.Need-enum-known-t-2
-enum-known-t-2 c = search needs
-
 field-of-requires : tie.Need-field-of-requires
 field-of-requires c κs = limited-most _ _ _ (sym (c .before .before .before .within-limit .ensures) ∙ ap sizeAnswer (c .before .t2 .given .1))
 
@@ -39,10 +27,10 @@ pub data-len-field-spec : {M : Type 1} → statement M
 data-len-field-spec =
     tie.close
     (tie.spec
-    total-of-requires
-    within-limit-requires
-    enum-known-t
-    enum-known-t-2
+    (λ c κs. search needs)
+    (λ c κs. search needs)
+    (λ c. search needs)
+    (λ c. search needs)
     field-of-requires
     returns
     returns-2)

@@ -9,23 +9,11 @@ use borrow.Author.Needs.{needs}
 use Rattle.ecss_write.proofs.fill.Statement.{statement}
 use Rattle.ecss_write.proofs.fill.Tie as tie
 
-in-buffer-requires : tie.Need-in-buffer-requires
-in-buffer-requires c κs = search needs
-
-enum-known-room : tie.Need-enum-known-room
-enum-known-room c = search needs
-
-enum-known-room-2 : tie.Need-enum-known-room-2
-enum-known-room-2 c = search needs
-
 copy-requires : tie.Need-copy-requires
 copy-requires c κs = let a = c .before .before .before .before .before .before .before .args in let e = sym (c .before .before .before .before .in-buffer .ensures) ∙ ap sizeAnswer (c .before .before .room2 .given .1) in let i = in-buffer-is (length (a .part .now)) (length (a .«data» .now)) _ e in i .1
 
 returns : tie.Need-returns
 returns c = let e = sym (c .before .before .before .in-buffer .ensures) ∙ ap sizeAnswer (c .before .room .given .1) in record { answered = sym e; left = sym (left-refused _ _ _ _ e) }
-
-same-length : tie.Need-same-length
-same-length c = search needs
 
 returns-2 : tie.Need-returns-2
 returns-2 c = let a = c .before .before .before .before .before .before .before .before .before .before .args in let e = sym (c .before .before .before .before .before .before .before .in-buffer .ensures) ∙ ap sizeAnswer (c .before .before .before .before .before .room2 .given .1) in let i = in-buffer-is (length (a .part .now)) (length (a .«data» .now)) _ e in record { answered = sym e; left = c .before .before .copy .ensures ∙ ap (λ k. a .«data» .now ++ drop k (a .part .now)) (sym (i .0)) ∙ sym (left-written _ _ _ _ e) }
@@ -34,10 +22,10 @@ pub fill-spec : {M : Type 1} → statement M
 fill-spec =
     tie.close
     (tie.spec
-    in-buffer-requires
-    enum-known-room
-    enum-known-room-2
+    (λ c κs. search needs)
+    (λ c. search needs)
+    (λ c. search needs)
     copy-requires
     returns
-    same-length
+    (λ c. search needs)
     returns-2)

@@ -10,29 +10,8 @@ use borrow.Author.Needs.{needs}
 use Rattle.ecss_write.proofs.put_checksum.Statement.{statement}
 use Rattle.ecss_write.proofs.put_checksum.Tie as tie
 
-front-requires : tie.Need-front-requires
-front-requires c κs = search needs
-
-crc-ccitt-false-no-table-requires : tie.Need-crc-ccitt-false-no-table-requires
-crc-ccitt-false-no-table-requires c κs = search needs
-
-cast-buf : tie.Need-cast-buf
-cast-buf c = search needs
-
-slice-write-buf : tie.Need-slice-write-buf
-slice-write-buf c = search needs
-
-cast-buf-2 : tie.Need-cast-buf-2
-cast-buf-2 c = search needs
-
-add-buf : tie.Need-add-buf
-add-buf c = search needs
-
 slice-write-buf-2 : tie.Need-slice-write-buf-2
 slice-write-buf-2 c = simp length-set (omega arith)
-
-same-length : tie.Need-same-length
-same-length c = search needs
 
 returns : tie.Need-returns
 unfolding sealed
@@ -42,12 +21,12 @@ pub put-checksum-spec : {M : Type 1} → statement M
 put-checksum-spec =
     tie.close
     (tie.spec
-    front-requires
-    crc-ccitt-false-no-table-requires
-    cast-buf
-    slice-write-buf
-    cast-buf-2
-    add-buf
+    (λ c κs. search needs)
+    (λ c κs. search needs)
+    (λ c. search needs)
+    (λ c. search needs)
+    (λ c. search needs)
+    (λ c. search needs)
     slice-write-buf-2
-    same-length
+    (λ c. search needs)
     returns)

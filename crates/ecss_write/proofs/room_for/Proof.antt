@@ -7,18 +7,6 @@ use borrow.Author.Needs.{needs}
 use Rattle.ecss_write.proofs.room_for.Statement.{statement}
 use Rattle.ecss_write.proofs.room_for.Tie as tie
 
-total-of-requires : tie.Need-total-of-requires
-total-of-requires c κs = search needs
-
-enum-known-t : tie.Need-enum-known-t
-enum-known-t c = search needs
-
-enum-known-t-2 : tie.Need-enum-known-t-2
-enum-known-t-2 c = search needs
-
-in-buffer-requires : tie.Need-in-buffer-requires
-in-buffer-requires c κs = search needs
-
 returns : tie.Need-returns
 unfolding writeIn
 returns c = let e = sym (c .before .before .before .total-of .ensures) ∙ ap sizeAnswer (c .before .t .given .1) in sym (refuses-then _ _ _ e)
@@ -30,4 +18,4 @@ returns-2 c = let e = sym (c .before .before .before .before .total-of .ensures)
 pub room-for-spec : {M : Type 1} → statement M
 room-for-spec =
     tie.close
-    (tie.spec total-of-requires enum-known-t enum-known-t-2 in-buffer-requires returns returns-2)
+    (tie.spec (λ c κs. search needs) (λ c. search needs) (λ c. search needs) (λ c κs. search needs) returns returns-2)

@@ -9,15 +9,6 @@ use borrow.Author.Needs.{needs}
 use Rattle.ecss_write.proofs.seal.Statement.{statement}
 use Rattle.ecss_write.proofs.seal.Tie as tie
 
-room-for-requires : tie.Need-room-for-requires
-room-for-requires c κs = search needs
-
-enum-known-room : tie.Need-enum-known-room
-enum-known-room c = search needs
-
-enum-known-room-2 : tie.Need-enum-known-room-2
-enum-known-room-2 c = search needs
-
 sub-put-checksum : tie.Need-sub-put-checksum
 sub-put-checksum c = let e = sym (c .before .before .before .before .room-for .ensures) ∙ ap sizeAnswer (c .before .before .room2 .given .1) in let q = write-total _ _ _ _ _ e in omega arith
 
@@ -27,9 +18,6 @@ put-checksum-requires c κs = let e = sym (c .before .before .before .before .ro
 returns : tie.Need-returns
 returns c = let w = sym (c .before .before .before .room-for .ensures) ∙ ap sizeAnswer (c .before .room .given .1) in record { answered = sym w; left = sym (left-refused _ _ _ _ w) }
 
-same-length : tie.Need-same-length
-same-length c = search needs
-
 returns-2 : tie.Need-returns-2
 returns-2 c = let e = sym (c .before .before .before .before .before .before .before .room-for .ensures) ∙ ap sizeAnswer (c .before .before .before .before .before .room2 .given .1) in let q = write-total _ _ _ _ _ e in record { answered = sym e; left = c .before .before .put-checksum .ensures ∙ seal-left _ _ _ _ _ q ∙ sym (left-written _ _ _ _ e) }
 
@@ -37,11 +25,11 @@ pub seal-spec : {M : Type 1} → statement M
 seal-spec =
     tie.close
     (tie.spec
-    room-for-requires
-    enum-known-room
-    enum-known-room-2
+    (λ c κs. search needs)
+    (λ c. search needs)
+    (λ c. search needs)
     sub-put-checksum
     put-checksum-requires
     returns
-    same-length
+    (λ c. search needs)
     returns-2)

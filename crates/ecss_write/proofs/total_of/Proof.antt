@@ -10,9 +10,6 @@ use borrow.Author.Needs.{needs}
 use Rattle.ecss_write.proofs.total_of.Statement.{statement}
 use Rattle.ecss_write.proofs.total_of.Tie as tie
 
-trailer-len-requires : tie.Need-trailer-len-requires
-trailer-len-requires c κs = search needs
-
 sub-most : tie.Need-sub-most
 sub-most c = omega (arith, trailer-le (c .before .args .has-checksum))
 
@@ -32,12 +29,6 @@ returns-2 c =
     let k = trailer-le (a .has-checksum) in
     let h : 18446744073709551615 < t = omega arith in sym (refuse-yes _ _ _ (lt-ltb 18446744073709551615 t h))
 
-add-t8 : tie.Need-add-t8
-add-t8 c = search needs
-
-add-t10 : tie.Need-add-t10
-add-t10 c = search needs
-
 returns-3 : tie.Need-returns-3
 returns-3 c =
     let a = c .before .before .before .args in
@@ -46,4 +37,4 @@ returns-3 c =
 
 pub total-of-spec : {M : Type 1} → statement M
 total-of-spec =
-    tie.close (tie.spec trailer-len-requires sub-most returns returns-2 add-t8 add-t10 returns-3)
+    tie.close (tie.spec (λ c κs. search needs) sub-most returns returns-2 (λ c. search needs) (λ c. search needs) returns-3)

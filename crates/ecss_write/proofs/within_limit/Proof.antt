@@ -7,12 +7,6 @@ use borrow.Author.Needs.{needs}
 use Rattle.ecss_write.proofs.within_limit.Statement.{statement}
 use Rattle.ecss_write.proofs.within_limit.Tie as tie
 
-enum-known-passed : tie.Need-enum-known-passed
-enum-known-passed c = search needs
-
-enum-known-passed-2 : tie.Need-enum-known-passed-2
-enum-known-passed-2 c = search needs
-
 returns : tie.Need-returns
 returns c = sym (gives-then _ _ _ (ap sizeAnswer (c .before .before .passed2 .given .1)) ∙ refuse-yes _ _ _ (lt-ltb _ _ (c .if1 .taken)))
 
@@ -24,4 +18,4 @@ returns-3 c = sym (gives-then _ _ _ (ap sizeAnswer (c .before .before .passed2 .
 
 pub within-limit-spec : {M : Type 1} → statement M
 within-limit-spec =
-    tie.close (tie.spec enum-known-passed enum-known-passed-2 returns returns-2 returns-3)
+    tie.close (tie.spec (λ c. search needs) (λ c. search needs) returns returns-2 returns-3)

@@ -7,20 +7,8 @@ use borrow.Author.Needs.{needs}
 use Rattle.gap_report.proofs.put_gaps.Statement.{statement}
 use Rattle.gap_report.proofs.put_gaps.Tie as tie
 
-list-gaps-requires : tie.Need-list-gaps-requires
-list-gaps-requires c κs = search needs
-
 put-rows-requires : tie.Need-put-rows-requires
 put-rows-requires c κs = rows-fit _ _ _ _ (c .before .before .before .list-gaps .ensures)
-
-put-end-requires : tie.Need-put-end-requires
-put-end-requires c κs = search needs
-
-same-length : tie.Need-same-length
-same-length c = search needs
-
-same-length-2 : tie.Need-same-length-2
-same-length-2 c = search needs
 
 returns : tie.Need-returns
 returns c =
@@ -32,9 +20,9 @@ pub put-gaps-spec : {M : Type 1} → statement M
 put-gaps-spec =
     tie.close
     (tie.spec
-    list-gaps-requires
+    (λ c κs. search needs)
     put-rows-requires
-    put-end-requires
-    same-length
-    same-length-2
+    (λ c κs. search needs)
+    (λ c. search needs)
+    (λ c. search needs)
     returns)

@@ -5,15 +5,6 @@ use borrow.Author.Needs.{needs}
 use Rattle.gap_report.proofs.put_total.Statement.{statement}
 use Rattle.gap_report.proofs.put_total.Tie as tie
 
-put-text-requires : tie.Need-put-text-requires
-put-text-requires c κs = search needs
-
-put-number-requires : tie.Need-put-number-requires
-put-number-requires c κs = search needs
-
-same-length : tie.Need-same-length
-same-length c = search needs
-
 returns : tie.Need-returns
 unfolding totalText
 returns c =
@@ -22,4 +13,4 @@ returns c =
     and-then _ _ _ (first .put-text .ensures) (second .put-number .ensures)
 
 pub put-total-spec : {M : Type 1} → statement M
-put-total-spec = tie.close (tie.spec put-text-requires put-number-requires same-length returns)
+put-total-spec = tie.close (tie.spec (λ c κs. search needs) (λ c κs. search needs) (λ c. search needs) returns)

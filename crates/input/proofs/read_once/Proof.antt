@@ -6,19 +6,10 @@ use borrow.Author.Needs.{needs}
 use Rattle.input.proofs.read_once.Statement.{statement}
 use Rattle.input.proofs.read_once.Tie as tie
 
-read-requires : tie.Need-read-requires
-read-requires c κs = search needs
-
-told-requires : tie.Need-told-requires
-told-requires c κs = search needs
-
-same-length : tie.Need-same-length
-same-length c = search needs
-
 returns : tie.Need-returns
 returns c =
     let read = c .before .before .before .read in
     within-is _ (read .result) _ (rw (toZ-ofZ w64 (read .result) (search needs)) at (c .told .ensures)) (read .ensures)
 
 pub read-once-spec : {M : Type 1} → statement M
-read-once-spec = tie.close (tie.spec read-requires told-requires same-length returns)
+read-once-spec = tie.close (tie.spec (λ c κs. search needs) (λ c κs. search needs) (λ c. search needs) returns)

@@ -5,9 +5,6 @@ use borrow.Author.Needs.{needs}
 use Rattle.param_value.proofs.double_nan_bits.Statement.{statement}
 use Rattle.param_value.proofs.double_nan_bits.Tie as tie
 
-is-nan64-requires : tie.Need-is-nan64-requires
-is-nan64-requires c κs = search needs
-
 returns : tie.Need-returns
 returns c = sym (refuse-no _ _ _ (ap not (sym (c .before .is-nan64 .ensures) ∙ c .if1 .taken)))
 
@@ -15,4 +12,4 @@ returns-2 : tie.Need-returns-2
 returns-2 c = sym (refuse-yes _ _ _ (ap not (sym (c .before .is-nan64 .ensures) ∙ c .if1 .left)))
 
 pub double-nan-bits-spec : {M : Type 1} → statement M
-double-nan-bits-spec = tie.close (tie.spec is-nan64-requires returns returns-2)
+double-nan-bits-spec = tie.close (tie.spec (λ c κs. search needs) returns returns-2)

@@ -4,9 +4,6 @@ use borrow.Author.Needs.{needs}
 use Rattle.param_value.proofs.double_of.Statement.{statement}
 use Rattle.param_value.proofs.double_of.Tie as tie
 
-is-nan64-requires : tie.Need-is-nan64-requires
-is-nan64-requires c κs = search needs
-
 returns : tie.Need-returns
 returns c = simp (sym (c .before .is-nan64 .ensures) ∙ c .if1 .taken)
 
@@ -17,4 +14,4 @@ returns-2 : tie.Need-returns-2
 returns-2 c = simp (sym (c .before .is-nan64 .ensures) ∙ c .if1 .left)
 
 pub double-of-spec : {M : Type 1} → statement M
-double-of-spec = tie.close (tie.spec is-nan64-requires returns float-from-bits-t3 returns-2)
+double-of-spec = tie.close (tie.spec (λ c κs. search needs) returns float-from-bits-t3 returns-2)

@@ -6,15 +6,6 @@ use borrow.Author.Needs.{needs}
 use Rattle.param_value.proofs.octets_for.Statement.{statement}
 use Rattle.param_value.proofs.octets_for.Tie as tie
 
-int-octets-requires : tie.Need-int-octets-requires
-int-octets-requires c κs = search needs
-
-int-octets-requires-2 : tie.Need-int-octets-requires-2
-int-octets-requires-2 c κs = search needs
-
-real-octets-requires : tie.Need-real-octets-requires
-real-octets-requires c κs = search needs
-
 returns : tie.Need-returns
 unfolding octetsFor
 returns c = c .int-octets .ensures ∙ ap (λ (t : ℕ). octetsFor t (c .before .before .args .pfc)) (sym (c .before .match .keys1))
@@ -35,9 +26,9 @@ pub octets-for-spec : {M : Type 1} → statement M
 octets-for-spec =
     tie.close
     (tie.spec
-    int-octets-requires
-    int-octets-requires-2
-    real-octets-requires
+    (λ c κs. search needs)
+    (λ c κs. search needs)
+    (λ c κs. search needs)
     returns
     returns-2
     returns-3

@@ -10,56 +10,20 @@ use borrow.Author.Needs.{needs}
 use Rattle.param_value.proofs.pattern_of.Statement.{statement}
 use Rattle.param_value.proofs.pattern_of.Tie as tie
 
-octets-for-requires : tie.Need-octets-for-requires
-octets-for-requires c κs = search needs
-
 returns : tie.Need-returns
 returns c = sym (pattern-none _ _ _ (sym (c .before .octets-for .ensures) ∙ c .if1 .taken))
-
-kind-is-requires : tie.Need-kind-is-requires
-kind-is-requires c κs = search needs
 
 returns-2 : tie.Need-returns-2
 returns-2 c =
     sym (pattern-other _ _ _ (named-by _ _ _ (c .before .before .before .octets-for .ensures) (c .before .before .if1 .left)) (sym (c .before .kind-is .ensures) ∙ not-true _ (c .if2 .taken)))
 
-enum-known-value : tie.Need-enum-known-value
-enum-known-value c = search needs
-
 unsigned-bits-requires : tie.Need-unsigned-bits-requires
 unsigned-bits-requires c κs =
     rw (c .before .before .before .before .before .before .octets-for .ensures) (named-by _ _ _ (c .before .before .before .before .before .before .octets-for .ensures) (c .before .before .before .before .before .if1 .left), octets-le _ _)
 
-enum-known-value-2 : tie.Need-enum-known-value-2
-enum-known-value-2 c = search needs
-
 signed-bits-requires : tie.Need-signed-bits-requires
 signed-bits-requires c κs =
     rw (c .before .before .before .before .before .before .octets-for .ensures) (named-by _ _ _ (c .before .before .before .before .before .before .octets-for .ensures) (c .before .before .before .before .before .if1 .left), octets-le _ _)
-
-enum-known-value-3 : tie.Need-enum-known-value-3
-enum-known-value-3 c = search needs
-
-single-bits-requires : tie.Need-single-bits-requires
-single-bits-requires c κs = search needs
-
-enum-known-value-4 : tie.Need-enum-known-value-4
-enum-known-value-4 c = search needs
-
-single-nan-bits-requires : tie.Need-single-nan-bits-requires
-single-nan-bits-requires c κs = search needs
-
-enum-known-value-5 : tie.Need-enum-known-value-5
-enum-known-value-5 c = search needs
-
-double-bits-requires : tie.Need-double-bits-requires
-double-bits-requires c κs = search needs
-
-enum-known-value-6 : tie.Need-enum-known-value-6
-enum-known-value-6 c = search needs
-
-double-nan-bits-requires : tie.Need-double-nan-bits-requires
-double-nan-bits-requires c κs = search needs
 
 returns-3 : tie.Need-returns-3
 returns-3 c =
@@ -95,22 +59,22 @@ pub pattern-of-spec : {M : Type 1} → statement M
 pattern-of-spec =
     tie.close
     (tie.spec
-    octets-for-requires
+    (λ c κs. search needs)
     returns
-    kind-is-requires
+    (λ c κs. search needs)
     returns-2
-    enum-known-value
+    (λ c. search needs)
     unsigned-bits-requires
-    enum-known-value-2
+    (λ c. search needs)
     signed-bits-requires
-    enum-known-value-3
-    single-bits-requires
-    enum-known-value-4
-    single-nan-bits-requires
-    enum-known-value-5
-    double-bits-requires
-    enum-known-value-6
-    double-nan-bits-requires
+    (λ c. search needs)
+    (λ c κs. search needs)
+    (λ c. search needs)
+    (λ c κs. search needs)
+    (λ c. search needs)
+    (λ c κs. search needs)
+    (λ c. search needs)
+    (λ c κs. search needs)
     returns-3
     returns-4
     returns-5

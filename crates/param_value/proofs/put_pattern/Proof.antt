@@ -15,21 +15,6 @@ returns : tie.Need-returns
 returns c =
     let p = no-room _ _ _ refl (c .if1 .taken) in record { answered = p; left = sym (left-refused _ _ _ _ (sym p)) }
 
-sub-put-number : tie.Need-sub-put-number
-sub-put-number c = search needs
-
-part-put-number-start : tie.Need-part-put-number-start
-part-put-number-start c = search needs
-
-part-put-number-end : tie.Need-part-put-number-end
-part-put-number-end c = search needs
-
-put-number-requires : tie.Need-put-number-requires
-put-number-requires c κs = search needs
-
-same-length : tie.Need-same-length
-same-length c = search needs
-
 returns-2 : tie.Need-returns-2
 returns-2 c =
     let a = c .before .before .before .before .before .before .args in
@@ -50,9 +35,9 @@ put-pattern-spec =
     tie.close
     (tie.spec
     returns
-    sub-put-number
-    part-put-number-start
-    part-put-number-end
-    put-number-requires
-    same-length
+    (λ c. search needs)
+    (λ c. search needs)
+    (λ c. search needs)
+    (λ c κs. search needs)
+    (λ c. search needs)
     returns-2)

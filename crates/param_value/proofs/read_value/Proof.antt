@@ -13,9 +13,6 @@ use borrow.Author.Needs.{needs}
 use Rattle.param_value.proofs.read_value.Statement.{statement}
 use Rattle.param_value.proofs.read_value.Tie as tie
 
-octets-for-requires : tie.Need-octets-for-requires
-octets-for-requires c κs = search needs
-
 returns : tie.Need-returns
 returns c = sym (read-none _ _ _ (sym (c .before .octets-for .ensures) ∙ c .if1 .taken))
 
@@ -58,7 +55,7 @@ pub read-value-spec : {M : Type 1} → statement M
 read-value-spec =
     tie.close
     (tie.spec
-    octets-for-requires
+    (λ c κs. search needs)
     returns
     returns-2
     slice-aggregate-number-of

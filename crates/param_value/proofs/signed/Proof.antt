@@ -3,24 +3,12 @@ use borrow.Author.Needs.{needs}
 use Rattle.param_value.proofs.signed.Statement.{statement}
 use Rattle.param_value.proofs.signed.Tie as tie
 
-largest-requires : tie.Need-largest-requires
-largest-requires c κs = search needs
-
-cast-result : tie.Need-cast-result
-cast-result c = search needs
-
 returns : tie.Need-returns
 returns c = let p = c .before .before .pre in let e = c .before .largest .ensures in low-is _ _ (p .0) (p .1) (rw e at (c .if1 .taken))
-
-sub-result : tie.Need-sub-result
-sub-result c = search needs
-
-cast-result-2 : tie.Need-cast-result-2
-cast-result-2 c = search needs
 
 returns-2 : tie.Need-returns-2
 returns-2 c = let p = c .before .before .pre in let e = c .before .largest .ensures in rw e (high-is _ _ (p .0) (p .1) (p .2) (rw e at (c .if1 .left)))
 
 pub signed-spec : {M : Type 1} → statement M
 signed-spec =
-    tie.close (tie.spec largest-requires cast-result returns sub-result cast-result-2 returns-2)
+    tie.close (tie.spec (λ c κs. search needs) (λ c. search needs) returns (λ c. search needs) (λ c. search needs) returns-2)

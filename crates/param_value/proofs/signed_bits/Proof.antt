@@ -8,17 +8,11 @@ use borrow.Author.Needs.{needs}
 use Rattle.param_value.proofs.signed_bits.Statement.{statement}
 use Rattle.param_value.proofs.signed_bits.Tie as tie
 
-largest-requires : tie.Need-largest-requires
-largest-requires c κs = search needs
-
 cast-m : tie.Need-cast-m
 cast-m c = let b = below-by (c .before .before .args .value) (c .before .before .fits .value) (c .if1 .taken) in rw (b .flipped) (tt, record { fits = let h = b .small in omega (arith, h) })
 
 returns : tie.Need-returns
 returns c = let b = below-by (c .before .before .before .args .value) (c .before .before .before .fits .value) (c .before .if1 .taken) in let k = c .before .before .before .args .octets in let a = c .before .before .before .pre .0 in let e = c .before .before .largest .ensures in sym (ap (signedBits k) (b .is) ∙ over-high k (b .m) (half-over k (b .m) a (rw (b .flipped, e) at (c .if2 .taken))))
-
-sub-t8 : tie.Need-sub-t8
-sub-t8 c = search needs
 
 returns-2 : tie.Need-returns-2
 returns-2 c = let b = below-by (c .before .before .before .args .value) (c .before .before .before .fits .value) (c .before .if1 .taken) in let k = c .before .before .before .args .octets in let a = c .before .before .before .pre .0 in let e = c .before .before .largest .ensures in let j : 256 ^ k - 1 - b .m ≡ 256 ^ k - suc (b .m) = omega arith in rw (b .flipped, e) (ap gives j ∙ sym (ap (signedBits k) (b .is) ∙ back-high k (b .m) (half-under k (b .m) a (rw (b .flipped, e) at (c .if2 .left)))))
@@ -35,4 +29,4 @@ returns-4 c = let b = above-by (c .before .before .before .args .value) (c .befo
 pub signed-bits-spec : {M : Type 1} → statement M
 signed-bits-spec =
     tie.close
-    (tie.spec largest-requires cast-m returns sub-t8 returns-2 cast-n returns-3 returns-4)
+    (tie.spec (λ c κs. search needs) cast-m returns (λ c. search needs) returns-2 cast-n returns-3 returns-4)

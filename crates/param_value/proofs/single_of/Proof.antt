@@ -4,9 +4,6 @@ use borrow.Author.Needs.{needs}
 use Rattle.param_value.proofs.single_of.Statement.{statement}
 use Rattle.param_value.proofs.single_of.Tie as tie
 
-is-nan32-requires : tie.Need-is-nan32-requires
-is-nan32-requires c κs = search needs
-
 returns : tie.Need-returns
 returns c = simp (sym (c .before .is-nan32 .ensures) ∙ c .if1 .taken)
 
@@ -17,4 +14,4 @@ returns-2 : tie.Need-returns-2
 returns-2 c = simp (sym (c .before .is-nan32 .ensures) ∙ c .if1 .left)
 
 pub single-of-spec : {M : Type 1} → statement M
-single-of-spec = tie.close (tie.spec is-nan32-requires returns float-from-bits-t3 returns-2)
+single-of-spec = tie.close (tie.spec (λ c κs. search needs) returns float-from-bits-t3 returns-2)

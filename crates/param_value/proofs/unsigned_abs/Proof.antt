@@ -20,8 +20,5 @@ returns c = let b = below-by (c .before .args .value) (c .before .fits .value) (
 cast-result-2 : tie.Need-cast-result-2
 cast-result-2 c = let b = above-by (c .before .args .value) (c .before .fits .value) (c .if1 .left) in rw (b .same) (tt, record { fits = let h = b .small in omega (arith, h) })
 
-returns-2 : tie.Need-returns-2
-returns-2 c = search needs
-
 pub unsigned-abs-spec : {M : Type 1} → statement M
-unsigned-abs-spec = tie.close (tie.spec cast-result add-result returns cast-result-2 returns-2)
+unsigned-abs-spec = tie.close (tie.spec cast-result add-result returns cast-result-2 (λ c. search needs))

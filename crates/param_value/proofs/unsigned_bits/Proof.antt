@@ -9,9 +9,6 @@ use borrow.Author.Needs.{needs}
 use Rattle.param_value.proofs.unsigned_bits.Statement.{statement}
 use Rattle.param_value.proofs.unsigned_bits.Tie as tie
 
-largest-requires : tie.Need-largest-requires
-largest-requires c κs = search needs
-
 returns : tie.Need-returns
 returns c = let k = c .before .before .args .octets in let n = c .before .before .args .n in let s = some k in let h = rw (c .before .largest .ensures) at (c .if1 .taken) in sym (refuse-yes _ _ _ (ap not (le-ltb n (256 ^ k) (omega (arith, s, h)))))
 
@@ -19,4 +16,4 @@ returns-2 : tie.Need-returns-2
 returns-2 c = let k = c .before .before .args .octets in let n = c .before .before .args .n in let s = some k in let h = rw (c .before .largest .ensures) at (c .if1 .left) in sym (refuse-no _ _ _ (ap not (lt-ltb n (256 ^ k) (omega (arith, s, h)))))
 
 pub unsigned-bits-spec : {M : Type 1} → statement M
-unsigned-bits-spec = tie.close (tie.spec largest-requires returns returns-2)
+unsigned-bits-spec = tie.close (tie.spec (λ c κs. search needs) returns returns-2)

@@ -12,9 +12,6 @@ use Rattle.param_value.proofs.value_of.Tie as tie
 returns : tie.Need-returns
 returns c = sym (value-unsigned _ _ _ (c .if1 .taken))
 
-octets-for-requires : tie.Need-octets-for-requires
-octets-for-requires c κs = search needs
-
 signed-requires : tie.Need-signed-requires
 signed-requires c κs = rw (c .before .octets-for .ensures) (c .before .before .before .pre .0, octets-le _ _, c .before .before .before .pre .1)
 
@@ -24,14 +21,8 @@ returns-2 c = ap Signed (toZ-ofZ (search needs) ∙ c .signed .ensures ∙ ap (�
 cast-single-of : tie.Need-cast-single-of
 cast-single-of c = let r = is-real _ _ (c .before .before .before .if1 .left) (c .before .if2 .left) (c .before .before .before .before .pre .0) in let h : c .before .before .before .before .args .bits < 256 ^ 4 = subst (λ (k : ℕ). c .before .before .before .before .args .bits < 256 ^ k) (r .octets-are ∙ single-octets _ (c .if3 .taken)) (c .before .before .before .before .pre .1) in omega (arith, h)
 
-single-of-requires : tie.Need-single-of-requires
-single-of-requires c κs = search needs
-
 returns-3 : tie.Need-returns-3
 returns-3 c = c .single-of .ensures ∙ sym (value-real _ _ _ (c .before .before .before .before .if1 .left) (c .before .before .if2 .left) ∙ real-single _ _ (c .before .if3 .taken))
-
-double-of-requires : tie.Need-double-of-requires
-double-of-requires c κs = search needs
 
 returns-4 : tie.Need-returns-4
 returns-4 c = c .double-of .ensures ∙ sym (value-real _ _ _ (c .before .before .before .before .if1 .left) (c .before .before .if2 .left) ∙ real-double _ _ (c .before .if3 .left))
@@ -41,11 +32,11 @@ value-of-spec =
     tie.close
     (tie.spec
     returns
-    octets-for-requires
+    (λ c κs. search needs)
     signed-requires
     returns-2
     cast-single-of
-    single-of-requires
+    (λ c κs. search needs)
     returns-3
-    double-of-requires
+    (λ c κs. search needs)
     returns-4)

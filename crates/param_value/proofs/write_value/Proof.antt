@@ -6,27 +6,9 @@ use borrow.Author.Needs.{needs}
 use Rattle.param_value.proofs.write_value.Statement.{statement}
 use Rattle.param_value.proofs.write_value.Tie as tie
 
-pattern-of-requires : tie.Need-pattern-of-requires
-pattern-of-requires c κs = search needs
-
-enum-known-pattern : tie.Need-enum-known-pattern
-enum-known-pattern c = search needs
-
-enum-known-pattern-2 : tie.Need-enum-known-pattern-2
-enum-known-pattern-2 c = search needs
-
-octets-for-requires : tie.Need-octets-for-requires
-octets-for-requires c κs = search needs
-
-put-pattern-requires : tie.Need-put-pattern-requires
-put-pattern-requires c κs = search needs
-
 returns : tie.Need-returns
 returns c =
     wrote-refused _ _ _ (octets-refused _ _ _ _ (sym (c .before .before .before .pattern-of .ensures) ∙ ap patternAnswer (c .before .pattern .given .1)))
-
-same-length : tie.Need-same-length
-same-length c = search needs
 
 returns-2 : tie.Need-returns-2
 returns-2 c =
@@ -39,11 +21,11 @@ pub write-value-spec : {M : Type 1} → statement M
 write-value-spec =
     tie.close
     (tie.spec
-    pattern-of-requires
-    enum-known-pattern
-    enum-known-pattern-2
-    octets-for-requires
-    put-pattern-requires
+    (λ c κs. search needs)
+    (λ c. search needs)
+    (λ c. search needs)
+    (λ c κs. search needs)
+    (λ c κs. search needs)
     returns
-    same-length
+    (λ c. search needs)
     returns-2)

@@ -11,33 +11,6 @@ use borrow.Author.Needs.{needs}
 use Rattle.params.proofs.pair_len.Statement.{statement}
 use Rattle.params.proofs.pair_len.Tie as tie
 
-row-of-requires : tie.Need-row-of-requires
-row-of-requires c κs = search needs
-
-array-read-pattern-of : tie.Need-array-read-pattern-of
-array-read-pattern-of c = search needs
-
-array-read-pattern-of-2 : tie.Need-array-read-pattern-of-2
-array-read-pattern-of-2 c = search needs
-
-pattern-of-requires : tie.Need-pattern-of-requires
-pattern-of-requires c κs = search needs
-
-enum-known-pattern : tie.Need-enum-known-pattern
-enum-known-pattern c = search needs
-
-enum-told : tie.Need-enum-told
-enum-told c = search needs
-
-array-read-octets-for : tie.Need-array-read-octets-for
-array-read-octets-for c = search needs
-
-array-read-octets-for-2 : tie.Need-array-read-octets-for-2
-array-read-octets-for-2 c = search needs
-
-octets-for-requires : tie.Need-octets-for-requires
-octets-for-requires c κs = search needs
-
 add-t22 : tie.Need-add-t22
 add-t22 c =
     let r = c .before .before .before .before .row-of .result in
@@ -62,15 +35,15 @@ pub pair-len-spec : {M : Type 1} → statement M
 pair-len-spec =
     tie.close
     (tie.spec
-    row-of-requires
-    array-read-pattern-of
-    array-read-pattern-of-2
-    pattern-of-requires
-    enum-known-pattern
-    enum-told
-    array-read-octets-for
-    array-read-octets-for-2
-    octets-for-requires
+    (λ c κs. search needs)
+    (λ c. search needs)
+    (λ c. search needs)
+    (λ c κs. search needs)
+    (λ c. search needs)
+    (λ c. search needs)
+    (λ c. search needs)
+    (λ c. search needs)
+    (λ c κs. search needs)
     add-t22
     returns
     returns-2)

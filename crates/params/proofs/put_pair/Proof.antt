@@ -11,47 +11,17 @@ use borrow.Author.Needs.{needs}
 use Rattle.params.proofs.put_pair.Statement.{statement}
 use Rattle.params.proofs.put_pair.Tie as tie
 
-row-of-requires : tie.Need-row-of-requires
-row-of-requires c κs = search needs
-
-cast-part : tie.Need-cast-part
-cast-part c = search needs
-
 slice-write-part : tie.Need-slice-write-part
 slice-write-part c = let e = pair-length _ _ _ (c .before .before .before .pre .are) in let h = c .before .before .before .pre .room in omega (arith, e, h)
 
-cast-part-2 : tie.Need-cast-part-2
-cast-part-2 c = search needs
-
 slice-write-part-2 : tie.Need-slice-write-part-2
 slice-write-part-2 c = let e = pair-length _ _ _ (c .before .before .before .before .pre .are) in let h = c .before .before .before .before .pre .room in simp length-set (omega (arith, e, h))
-
-array-read-write-value : tie.Need-array-read-write-value
-array-read-write-value c = search needs
-
-array-read-write-value-2 : tie.Need-array-read-write-value-2
-array-read-write-value-2 c = search needs
 
 sub-write-value : tie.Need-sub-write-value
 sub-write-value c = let e = pair-length _ _ _ (c .before .before .before .before .pre .are) in let h = c .before .before .before .before .pre .room in simp length-set (omega (arith, e, h))
 
 part-write-value-start : tie.Need-part-write-value-start
 part-write-value-start c = let e = pair-length _ _ _ (c .before .before .before .before .pre .are) in let h = c .before .before .before .before .pre .room in simp length-set (omega (arith, e, h))
-
-part-write-value-end : tie.Need-part-write-value-end
-part-write-value-end c = search needs
-
-write-value-requires : tie.Need-write-value-requires
-write-value-requires c κs = search needs
-
-array-read-octets-for : tie.Need-array-read-octets-for
-array-read-octets-for c = search needs
-
-array-read-octets-for-2 : tie.Need-array-read-octets-for-2
-array-read-octets-for-2 c = search needs
-
-octets-for-requires : tie.Need-octets-for-requires
-octets-for-requires c κs = search needs
 
 add-result : tie.Need-add-result
 add-result c =
@@ -78,20 +48,20 @@ pub put-pair-spec : {M : Type 1} → statement M
 put-pair-spec =
     tie.close
     (tie.spec
-    row-of-requires
-    cast-part
+    (λ c κs. search needs)
+    (λ c. search needs)
     slice-write-part
-    cast-part-2
+    (λ c. search needs)
     slice-write-part-2
-    array-read-write-value
-    array-read-write-value-2
+    (λ c. search needs)
+    (λ c. search needs)
     sub-write-value
     part-write-value-start
-    part-write-value-end
-    write-value-requires
-    array-read-octets-for
-    array-read-octets-for-2
-    octets-for-requires
+    (λ c. search needs)
+    (λ c κs. search needs)
+    (λ c. search needs)
+    (λ c. search needs)
+    (λ c κs. search needs)
     add-result
     same-length
     returns)

@@ -37,34 +37,10 @@ here l d at id octets row read is-id is-row is-size some is-read =
           ∙ sym is-read;
     }
 
-add-if1 : tie.Need-add-if1
-add-if1 c = search needs
-
-add-ended-early : tie.Need-add-ended-early
-add-ended-early c = search needs
-
-ended-early-requires : tie.Need-ended-early-requires
-ended-early-requires c κs = search needs
-
 returns : tie.Need-returns
 returns c =
     let a = c .before .before .before .args in
     ap (λ (e : PusError). refuses (numbersOf e)) (c .ended-early .ensures) ∙ sym (id-short (a .list .now) (a .«data» .now) (a .at) (c .before .if1 .taken))
-
-word-at-requires : tie.Need-word-at-requires
-word-at-requires c κs = search needs
-
-row-of-requires : tie.Need-row-of-requires
-row-of-requires c κs = search needs
-
-array-read-octets-for : tie.Need-array-read-octets-for
-array-read-octets-for c = search needs
-
-array-read-octets-for-2 : tie.Need-array-read-octets-for-2
-array-read-octets-for-2 c = search needs
-
-octets-for-requires : tie.Need-octets-for-requires
-octets-for-requires c κs = search needs
 
 returns-2 : tie.Need-returns-2
 returns-2 c =
@@ -73,44 +49,11 @@ returns-2 c =
     let e : c .before .before .row-of .result ≡ rowOf l _ = c .before .before .row-of .ensures ∙ ap (rowOf l) (c .before .before .before .word-at .ensures) in
     sym (id-unknown l (a .«data» .now) (a .at) (c .before .before .before .before .before .before .pre .0) (c .before .before .before .before .if1 .left) (ap octetsBy (sym e) ∙ sym (c .before .octets-for .ensures) ∙ c .if2 .taken))
 
-array-read-read-value : tie.Need-array-read-read-value
-array-read-read-value c = search needs
-
-array-read-read-value-2 : tie.Need-array-read-read-value-2
-array-read-read-value-2 c = search needs
-
-add-read-value : tie.Need-add-read-value
-add-read-value c = search needs
-
-sub-read-value : tie.Need-sub-read-value
-sub-read-value c = search needs
-
-part-read-value-start : tie.Need-part-read-value-start
-part-read-value-start c = search needs
-
-part-read-value-end : tie.Need-part-read-value-end
-part-read-value-end c = search needs
-
-read-value-requires : tie.Need-read-value-requires
-read-value-requires c κs = search needs
-
-add-end : tie.Need-add-end
-add-end c = search needs
-
 add-end-2 : tie.Need-add-end-2
 add-end-2 c =
     let r = c .before .before .before .before .row-of .result in
     let k = octets-le (ptcOf r) (pfcOf r) in
     let e = c .before .before .before .octets-for .ensures in omega (arith, k, e)
-
-enum-told : tie.Need-enum-told
-enum-told c = search needs
-
-ended-early-requires-2 : tie.Need-ended-early-requires-2
-ended-early-requires-2 c κs = search needs
-
-enum-known-read : tie.Need-enum-known-read
-enum-known-read c = search needs
 
 returns-3 : tie.Need-returns-3
 returns-3 c =
@@ -136,27 +79,27 @@ pub read-pair-spec : {M : Type 1} → statement M
 read-pair-spec =
     tie.close
     (tie.spec
-    add-if1
-    add-ended-early
-    ended-early-requires
+    (λ c. search needs)
+    (λ c. search needs)
+    (λ c κs. search needs)
     returns
-    word-at-requires
-    row-of-requires
-    array-read-octets-for
-    array-read-octets-for-2
-    octets-for-requires
+    (λ c κs. search needs)
+    (λ c κs. search needs)
+    (λ c. search needs)
+    (λ c. search needs)
+    (λ c κs. search needs)
     returns-2
-    array-read-read-value
-    array-read-read-value-2
-    add-read-value
-    sub-read-value
-    part-read-value-start
-    part-read-value-end
-    read-value-requires
-    add-end
+    (λ c. search needs)
+    (λ c. search needs)
+    (λ c. search needs)
+    (λ c. search needs)
+    (λ c. search needs)
+    (λ c. search needs)
+    (λ c κs. search needs)
+    (λ c. search needs)
     add-end-2
-    enum-told
-    ended-early-requires-2
-    enum-known-read
+    (λ c. search needs)
+    (λ c κs. search needs)
+    (λ c. search needs)
     returns-3
     returns-4)

@@ -5,11 +5,8 @@ use borrow.Author.Needs.{needs}
 use Rattle.params.proofs.refused.Statement.{statement}
 use Rattle.params.proofs.refused.Tie as tie
 
-new-requires : tie.Need-new-requires
-new-requires c κs = search needs
-
 returns : tie.Need-returns
 returns c = ap (λ p. record { params = p; result = C.Err (c .before .args .e) }) (c .new .ensures)
 
 pub refused-spec : {M : Type 1} → statement M
-refused-spec = tie.close (tie.spec new-requires returns)
+refused-spec = tie.close (tie.spec (λ c κs. search needs) returns)

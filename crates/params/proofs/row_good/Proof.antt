@@ -11,44 +11,11 @@ use borrow.Author.Needs.{needs}
 use Rattle.params.proofs.row_good.Statement.{statement}
 use Rattle.params.proofs.row_good.Tie as tie
 
-mul-row : tie.Need-mul-row
-mul-row c = search needs
-
-shared-slice-copy-out-row : tie.Need-shared-slice-copy-out-row
-shared-slice-copy-out-row c = search needs
-
-array-read-octets-for : tie.Need-array-read-octets-for
-array-read-octets-for c = search needs
-
-array-read-octets-for-2 : tie.Need-array-read-octets-for-2
-array-read-octets-for-2 c = search needs
-
-octets-for-requires : tie.Need-octets-for-requires
-octets-for-requires c κs = search needs
-
 returns : tie.Need-returns
 returns c =
     let a = c .before .before .before .args in
     let r = getD (a .list .now) (a .i) _ in
     sym (ap (λ (b : Bool). not b && below r (drop (suc (a .i)) (a .list .now))) (eq-eqb (octetsBy r) 0 (sym (c .before .octets-for .ensures) ∙ c .if1 .taken)))
-
-add-if2 : tie.Need-add-if2
-add-if2 c = search needs
-
-add-next : tie.Need-add-next
-add-next c = search needs
-
-mul-next : tie.Need-mul-next
-mul-next c = search needs
-
-shared-slice-copy-out-next : tie.Need-shared-slice-copy-out-next
-shared-slice-copy-out-next c = search needs
-
-array-read-result : tie.Need-array-read-result
-array-read-result c = search needs
-
-array-read-result-2 : tie.Need-array-read-result-2
-array-read-result-2 c = search needs
 
 returns-2 : tie.Need-returns-2
 returns-2 c =
@@ -70,17 +37,17 @@ pub row-good-spec : {M : Type 1} → statement M
 row-good-spec =
     tie.close
     (tie.spec
-    mul-row
-    shared-slice-copy-out-row
-    array-read-octets-for
-    array-read-octets-for-2
-    octets-for-requires
+    (λ c. search needs)
+    (λ c. search needs)
+    (λ c. search needs)
+    (λ c. search needs)
+    (λ c κs. search needs)
     returns
-    add-if2
-    add-next
-    mul-next
-    shared-slice-copy-out-next
-    array-read-result
-    array-read-result-2
+    (λ c. search needs)
+    (λ c. search needs)
+    (λ c. search needs)
+    (λ c. search needs)
+    (λ c. search needs)
+    (λ c. search needs)
     returns-2
     returns-3)

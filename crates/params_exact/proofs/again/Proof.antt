@@ -8,30 +8,6 @@ use borrow.Author.Needs.{needs}
 use Rattle.params_exact.proofs.again.Statement.{statement}
 use Rattle.params_exact.proofs.again.Tie as tie
 
-write-to-slice-requires : tie.Need-write-to-slice-requires
-write-to-slice-requires c κs = search needs
-
-enum-known-written : tie.Need-enum-known-written
-enum-known-written c = search needs
-
-front-requires : tie.Need-front-requires
-front-requires c κs = search needs
-
-read-requires : tie.Need-read-requires
-read-requires c κs = search needs
-
-enum-told : tie.Need-enum-told
-enum-told c = search needs
-
-front-requires-2 : tie.Need-front-requires-2
-front-requires-2 c κs = search needs
-
-read-requires-2 : tie.Need-read-requires-2
-read-requires-2 c κs = search needs
-
-same-length : tie.Need-same-length
-same-length c = search needs
-
 returns : tie.Need-returns
 returns c =
     let s = c .before .before .before .before .before .before .before .before .before .before .before in
@@ -42,9 +18,6 @@ returns c =
     let f = front-is l p o _ _ _ e h (c .before .before .before .before .before .before .before .before .write-to-slice .ensures) _ (c .before .before .before .before .written .given .1) in
     c .read .ensures ∙ ap keptOf (ap (readRequest l) (c .before .front .ensures ∙ f) ∙ read-written l (pairsOf p) o (values-held p _ g) (request-held l p o (places p _ g) e))
 
-same-length-2 : tie.Need-same-length-2
-same-length-2 c = search needs
-
 returns-2 : tie.Need-returns-2
 returns-2 c =
     let s = c .before .before .before .before .before .before .before .before .before .before in
@@ -54,14 +27,14 @@ pub again-spec : {M : Type 1} → statement M
 again-spec =
     tie.close
     (tie.spec
-    write-to-slice-requires
-    enum-known-written
-    front-requires
-    read-requires
-    enum-told
-    front-requires-2
-    read-requires-2
-    same-length
+    (λ c κs. search needs)
+    (λ c. search needs)
+    (λ c κs. search needs)
+    (λ c κs. search needs)
+    (λ c. search needs)
+    (λ c κs. search needs)
+    (λ c κs. search needs)
+    (λ c. search needs)
     returns
-    same-length-2
+    (λ c. search needs)
     returns-2)

@@ -8,24 +8,6 @@ use borrow.Author.Needs.{needs}
 use Rattle.params_exact.proofs.carried.Statement.{statement}
 use Rattle.params_exact.proofs.carried.Tie as tie
 
-write-to-slice-requires : tie.Need-write-to-slice-requires
-write-to-slice-requires c κs = search needs
-
-form-requires : tie.Need-form-requires
-form-requires c κs = search needs
-
-judge-in-requires : tie.Need-judge-in-requires
-judge-in-requires c κs = search needs
-
-app-data-in-requires : tie.Need-app-data-in-requires
-app-data-in-requires c κs = search needs
-
-read-requires : tie.Need-read-requires
-read-requires c κs = search needs
-
-same-length : tie.Need-same-length
-same-length c = search needs
-
 returns : tie.Need-returns
 returns c =
     let a = c .before .before .before .before .before .before .before .before .before .before .before .before .args in
@@ -45,10 +27,10 @@ pub carried-spec : {M : Type 1} → statement M
 carried-spec =
     tie.close
     (tie.spec
-    write-to-slice-requires
-    form-requires
-    judge-in-requires
-    app-data-in-requires
-    read-requires
-    same-length
+    (λ c κs. search needs)
+    (λ c κs. search needs)
+    (λ c κs. search needs)
+    (λ c κs. search needs)
+    (λ c κs. search needs)
+    (λ c. search needs)
     returns)

@@ -9,15 +9,6 @@ use borrow.Author.Needs.{needs}
 use Rattle.params_exact.proofs.copied.Statement.{statement}
 use Rattle.params_exact.proofs.copied.Tie as tie
 
-read-requires : tie.Need-read-requires
-read-requires c κs = search needs
-
-write-to-slice-requires : tie.Need-write-to-slice-requires
-write-to-slice-requires c κs = search needs
-
-same-length : tie.Need-same-length
-same-length c = search needs
-
 returns : tie.Need-returns
 returns c =
     let s = c .before .before .before .before .before .before .before .before in
@@ -26,4 +17,4 @@ returns c =
     (c .before .before .before .before .before .read .ensures, λ t h. record-written (s .args .list .now) d _ _ _ (c .before .before .before .before .before .read .result) o (c .before .before .before .before .before .read .ensures) t h (c .before .before .write-to-slice .ensures))
 
 pub copied-spec : {M : Type 1} → statement M
-copied-spec = tie.close (tie.spec read-requires write-to-slice-requires same-length returns)
+copied-spec = tie.close (tie.spec (λ c κs. search needs) (λ c κs. search needs) (λ c. search needs) returns)

@@ -8,15 +8,6 @@ use borrow.Author.Needs.{needs}
 use Rattle.params_exact.proofs.received.Statement.{statement}
 use Rattle.params_exact.proofs.received.Tie as tie
 
-judge-in-requires : tie.Need-judge-in-requires
-judge-in-requires c κs = search needs
-
-app-data-in-requires : tie.Need-app-data-in-requires
-app-data-in-requires c κs = search needs
-
-read-requires : tie.Need-read-requires
-read-requires c κs = search needs
-
 returns : tie.Need-returns
 returns c =
     let a = c .before .before .before .before .args in
@@ -34,4 +25,4 @@ returns c =
     }
 
 pub received-spec : {M : Type 1} → statement M
-received-spec = tie.close (tie.spec judge-in-requires app-data-in-requires read-requires returns)
+received-spec = tie.close (tie.spec (λ c κs. search needs) (λ c κs. search needs) (λ c κs. search needs) returns)

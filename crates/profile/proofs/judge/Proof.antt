@@ -8,30 +8,6 @@ use borrow.Author.Needs.{needs}
 use Rattle.profile.proofs.judge.Statement.{statement}
 use Rattle.profile.proofs.judge.Tie as tie
 
-judge-requires : tie.Need-judge-requires
-judge-requires c κs = search needs
-
-enum-known-v : tie.Need-enum-known-v
-enum-known-v c = search needs
-
-enum-known-v-2 : tie.Need-enum-known-v-2
-enum-known-v-2 c = search needs
-
-sp-header-requires : tie.Need-sp-header-requires
-sp-header-requires c κs = search needs
-
-sec-header-requires : tie.Need-sec-header-requires
-sec-header-requires c κs = search needs
-
-rule-requires : tie.Need-rule-requires
-rule-requires c κs = search needs
-
-enum-known-c : tie.Need-enum-known-c
-enum-known-c c = search needs
-
-enum-told : tie.Need-enum-told
-enum-told c = search needs
-
 returns : tie.Need-returns
 unfolding profileOf
 returns c = sym (refuses-then _ _ _ (sym (c .before .before .before .judge .ensures) ∙ ap verdictAnswer (c .before .v .given .1)))
@@ -58,14 +34,14 @@ pub judge-spec : {M : Type 1} → statement M
 judge-spec =
     tie.close
     (tie.spec
-    judge-requires
-    enum-known-v
-    enum-known-v-2
-    sp-header-requires
-    sec-header-requires
-    rule-requires
-    enum-known-c
-    enum-told
+    (λ c κs. search needs)
+    (λ c. search needs)
+    (λ c. search needs)
+    (λ c κs. search needs)
+    (λ c κs. search needs)
+    (λ c κs. search needs)
+    (λ c. search needs)
+    (λ c. search needs)
     returns
     returns-2
     returns-3)

@@ -19,9 +19,6 @@ past-three d e f p q r = refuse-no _ _ _ p ∙ past-two e f q r
 untaken : {taken is v : Bool} → taken ≡ is → not taken ≡ v → not is ≡ v
 untaken e p = ap not (sym e) ∙ p
 
-is-service-requires : tie.Need-is-service-requires
-is-service-requires c κs = search needs
-
 returns : tie.Need-returns
 unfolding rules
 returns c = sym (refuse-yes _ _ _ (c .if1 .taken))
@@ -72,4 +69,4 @@ returns-7 c =
 pub rules-spec : {M : Type 1} → statement M
 rules-spec =
     tie.close
-    (tie.spec is-service-requires returns returns-2 returns-3 returns-4 returns-5 returns-6 returns-7)
+    (tie.spec (λ c κs. search needs) returns returns-2 returns-3 returns-4 returns-5 returns-6 returns-7)

@@ -7,21 +7,6 @@ use borrow.Author.Needs.{needs}
 use Rattle.profile.proofs.within.Statement.{statement}
 use Rattle.profile.proofs.within.Tie as tie
 
-sp-header-requires : tie.Need-sp-header-requires
-sp-header-requires c κs = search needs
-
-sec-header-requires : tie.Need-sec-header-requires
-sec-header-requires c κs = search needs
-
-rule-requires : tie.Need-rule-requires
-rule-requires c κs = search needs
-
-enum-known-c : tie.Need-enum-known-c
-enum-known-c c = search needs
-
-enum-told : tie.Need-enum-told
-enum-told c = search needs
-
 returns : tie.Need-returns
 returns c =
     let k = c .before .before .before in
@@ -38,10 +23,10 @@ pub within-spec : {M : Type 1} → statement M
 within-spec =
     tie.close
     (tie.spec
-    sp-header-requires
-    sec-header-requires
-    rule-requires
-    enum-known-c
-    enum-told
+    (λ c κs. search needs)
+    (λ c κs. search needs)
+    (λ c κs. search needs)
+    (λ c. search needs)
+    (λ c. search needs)
     returns
     returns-2)

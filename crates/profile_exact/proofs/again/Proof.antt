@@ -9,29 +9,8 @@ use borrow.Author.Needs.{needs}
 use Rattle.profile_exact.proofs.again.Statement.{statement}
 use Rattle.profile_exact.proofs.again.Tie as tie
 
-judge-requires : tie.Need-judge-requires
-judge-requires c κs = search needs
-
-enum-known-v : tie.Need-enum-known-v
-enum-known-v c = search needs
-
-enum-known-v-2 : tie.Need-enum-known-v-2
-enum-known-v-2 c = search needs
-
-copied-requires : tie.Need-copied-requires
-copied-requires c κs = search needs
-
-app-data-requires : tie.Need-app-data-requires
-app-data-requires c κs = search needs
-
-made-requires : tie.Need-made-requires
-made-requires c κs = search needs
-
 returns : tie.Need-returns
 returns c = λ p q f. absurd (never _ _ (sym (ap verdictAnswer (c .before .v .given .1)) ∙ c .before .before .before .judge .ensures ∙ q))
-
-same-length : tie.Need-same-length
-same-length c = search needs
 
 returns-2 : tie.Need-returns-2
 returns-2 c =
@@ -49,12 +28,12 @@ pub again-spec : {M : Type 1} → statement M
 again-spec =
     tie.close
     (tie.spec
-    judge-requires
-    enum-known-v
-    enum-known-v-2
-    copied-requires
-    app-data-requires
-    made-requires
+    (λ c κs. search needs)
+    (λ c. search needs)
+    (λ c. search needs)
+    (λ c κs. search needs)
+    (λ c κs. search needs)
+    (λ c κs. search needs)
     returns
-    same-length
+    (λ c. search needs)
     returns-2)

@@ -5,15 +5,6 @@ use borrow.Author.Needs.{needs}
 use Rattle.profile_exact.proofs.built.Statement.{statement}
 use Rattle.profile_exact.proofs.built.Tie as tie
 
-made-requires : tie.Need-made-requires
-made-requires c κs = search needs
-
-judge-requires : tie.Need-judge-requires
-judge-requires c κs = search needs
-
-same-length : tie.Need-same-length
-same-length c = search needs
-
 returns : tie.Need-returns
 returns c =
     let w = c .before .before .before .before in
@@ -24,4 +15,4 @@ returns c =
     record { answers = n; accepted = c .judge .ensures ∙ written-accepted t (a .app-data .now) (a .buf .now) _ _ _ v n .1 }
 
 pub built-spec : {M : Type 1} → statement M
-built-spec = tie.close (tie.spec made-requires judge-requires same-length returns)
+built-spec = tie.close (tie.spec (λ c κs. search needs) (λ c κs. search needs) (λ c. search needs) returns)

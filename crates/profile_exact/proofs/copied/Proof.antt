@@ -4,39 +4,6 @@ use borrow.Author.Needs.{needs}
 use Rattle.profile_exact.proofs.copied.Statement.{statement}
 use Rattle.profile_exact.proofs.copied.Tie as tie
 
-new-requires : tie.Need-new-requires
-new-requires c κs = search needs
-
-message-type-id-requires : tie.Need-message-type-id-requires
-message-type-id-requires c κs = search needs
-
-with-message-type-id-requires : tie.Need-with-message-type-id-requires
-with-message-type-id-requires c κs = search needs
-
-source-id-requires : tie.Need-source-id-requires
-source-id-requires c κs = search needs
-
-with-source-id-requires : tie.Need-with-source-id-requires
-with-source-id-requires c κs = search needs
-
-apid-requires : tie.Need-apid-requires
-apid-requires c κs = search needs
-
-with-apid-requires : tie.Need-with-apid-requires
-with-apid-requires c κs = search needs
-
-psc-requires : tie.Need-psc-requires
-psc-requires c κs = search needs
-
-with-packet-sequence-control-requires : tie.Need-with-packet-sequence-control-requires
-with-packet-sequence-control-requires c κs = search needs
-
-ack-flags-requires : tie.Need-ack-flags-requires
-ack-flags-requires c κs = search needs
-
-with-ack-flags-requires : tie.Need-with-ack-flags-requires
-with-ack-flags-requires c κs = search needs
-
 returns : tie.Need-returns
 returns c =
     let a = c .before in
@@ -52,15 +19,15 @@ pub copied-spec : {M : Type 1} → statement M
 copied-spec =
     tie.close
     (tie.spec
-    new-requires
-    message-type-id-requires
-    with-message-type-id-requires
-    source-id-requires
-    with-source-id-requires
-    apid-requires
-    with-apid-requires
-    psc-requires
-    with-packet-sequence-control-requires
-    ack-flags-requires
-    with-ack-flags-requires
+    (λ c κs. search needs)
+    (λ c κs. search needs)
+    (λ c κs. search needs)
+    (λ c κs. search needs)
+    (λ c κs. search needs)
+    (λ c κs. search needs)
+    (λ c κs. search needs)
+    (λ c κs. search needs)
+    (λ c κs. search needs)
+    (λ c κs. search needs)
+    (λ c κs. search needs)
     returns)

@@ -12,9 +12,6 @@ use borrow.Author.Needs.{needs}
 use Rattle.profile_exact.proofs.judged.Statement.{statement}
 use Rattle.profile_exact.proofs.judged.Tie as tie
 
-judge-requires : tie.Need-judge-requires
-judge-requires c κs = search needs
-
 returns : tie.Need-returns
 returns c =
     let s = c .before .before .args .octets .now in
@@ -22,4 +19,4 @@ returns c =
     subst (λ (v : Answer PusTcRecord). Exactly v s × TellsFirst v s) (sym (c .judge .ensures)) (exact s o, tells-first s)
 
 pub judged-spec : {M : Type 1} → statement M
-judged-spec = tie.close (tie.spec judge-requires returns)
+judged-spec = tie.close (tie.spec (λ c κs. search needs) returns)

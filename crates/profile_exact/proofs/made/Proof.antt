@@ -13,23 +13,8 @@ use Rattle.profile_exact.proofs.made.Tie as tie
 of-command : (t u : ProfileTc) (d before after : List ℕ) (r : SizeResult) → t ≡ u → CommandWrote t d before r after → CommandWrote u d before r after
 of-command t u d before after r e w = subst (λ (z : ProfileTc). CommandWrote z d before r after) e w
 
-build-requires : tie.Need-build-requires
-build-requires c κs = search needs
-
-enum-known-made : tie.Need-enum-known-made
-enum-known-made c = search needs
-
-enum-known-made-2 : tie.Need-enum-known-made-2
-enum-known-made-2 c = search needs
-
-write-to-slice-requires : tie.Need-write-to-slice-requires
-write-to-slice-requires c κs = search needs
-
 returns : tie.Need-returns
 returns c = λ t p. absurd (never _ _ (sym (ap commandAnswer (c .before .made .given .1)) ∙ c .before .before .before .build .ensures ∙ p))
-
-same-length : tie.Need-same-length
-same-length c = search needs
 
 returns-2 : tie.Need-returns-2
 returns-2 c =
@@ -42,10 +27,10 @@ pub made-spec : {M : Type 1} → statement M
 made-spec =
     tie.close
     (tie.spec
-    build-requires
-    enum-known-made
-    enum-known-made-2
-    write-to-slice-requires
+    (λ c κs. search needs)
+    (λ c. search needs)
+    (λ c. search needs)
+    (λ c κs. search needs)
     returns
-    same-length
+    (λ c. search needs)
     returns-2)

@@ -6,15 +6,6 @@ use borrow.Author.Needs.{needs}
 use Rattle.profile_exact.proofs.written.Statement.{statement}
 use Rattle.profile_exact.proofs.written.Tie as tie
 
-write-to-slice-requires : tie.Need-write-to-slice-requires
-write-to-slice-requires c κs = search needs
-
-judge-requires : tie.Need-judge-requires
-judge-requires c κs = search needs
-
-same-length : tie.Need-same-length
-same-length c = search needs
-
 returns : tie.Need-returns
 returns c =
     let w = c .before .before .before .before in
@@ -24,4 +15,4 @@ returns c =
     record { answers = e ∙ ap gives (k .0); accepted = c .judge .ensures ∙ k .1 }
 
 pub written-spec : {M : Type 1} → statement M
-written-spec = tie.close (tie.spec write-to-slice-requires judge-requires same-length returns)
+written-spec = tie.close (tie.spec (λ c κs. search needs) (λ c κs. search needs) (λ c. search needs) returns)

@@ -6,35 +6,17 @@ use borrow.Author.Needs.{needs}
 use Rattle.report.proofs.after.Statement.{statement}
 use Rattle.report.proofs.after.Tie as tie
 
-enum-known-step : tie.Need-enum-known-step
-enum-known-step c = search needs
-
-onward-requires : tie.Need-onward-requires
-onward-requires c κs = search needs
-
-enum-known-step-2 : tie.Need-enum-known-step-2
-enum-known-step-2 c = search needs
-
-enum-told : tie.Need-enum-told
-enum-told c = search needs
-
 returns : tie.Need-returns
 returns c = c .onward .ensures ∙ ap (λ (s : Step). behind s (c .before .before .before .before .args .last)) (sym (c .before .before .step .given .1))
-
-returns-2 : tie.Need-returns-2
-returns-2 c = search needs
-
-returns-3 : tie.Need-returns-3
-returns-3 c = search needs
 
 pub after-spec : {M : Type 1} → statement M
 after-spec =
     tie.close
     (tie.spec
-    enum-known-step
-    onward-requires
-    enum-known-step-2
-    enum-told
+    (λ c. search needs)
+    (λ c κs. search needs)
+    (λ c. search needs)
+    (λ c. search needs)
     returns
-    returns-2
-    returns-3)
+    (λ c. search needs)
+    (λ c. search needs))

@@ -4,16 +4,10 @@ use borrow.Author.Needs.{needs}
 use Rattle.space_packet.proofs.packet_type_in_raw_packet_id.Statement.{statement}
 use Rattle.space_packet.proofs.packet_type_in_raw_packet_id.Tie as tie
 
-cast-new-with-raw-value : tie.Need-cast-new-with-raw-value
-cast-new-with-raw-value c = search needs
-
-new-with-raw-value-requires : tie.Need-new-with-raw-value-requires
-new-with-raw-value-requires c κs = search needs
-
 returns : tie.Need-returns
 unfolding idOf
 returns c = c .new-with-raw-value .ensures
 
 pub packet-type-in-raw-packet-id-spec : {M : Type 1} → statement M
 packet-type-in-raw-packet-id-spec =
-    tie.close (tie.spec cast-new-with-raw-value new-with-raw-value-requires returns)
+    tie.close (tie.spec (λ c. search needs) (λ c κs. search needs) returns)

@@ -8,44 +8,17 @@ use borrow.Author.Needs.{needs}
 use Rattle.space_packet.proofs.put_words.Statement.{statement}
 use Rattle.space_packet.proofs.put_words.Tie as tie
 
-cast-buf : tie.Need-cast-buf
-cast-buf c = search needs
-
-slice-write-buf : tie.Need-slice-write-buf
-slice-write-buf c = search needs
-
-cast-buf-2 : tie.Need-cast-buf-2
-cast-buf-2 c = search needs
-
 slice-write-buf-2 : tie.Need-slice-write-buf-2
 slice-write-buf-2 c = simp length-set (omega arith)
-
-cast-buf-3 : tie.Need-cast-buf-3
-cast-buf-3 c = search needs
 
 slice-write-buf-3 : tie.Need-slice-write-buf-3
 slice-write-buf-3 c = simp length-set (omega arith)
 
-cast-buf-4 : tie.Need-cast-buf-4
-cast-buf-4 c = search needs
-
 slice-write-buf-4 : tie.Need-slice-write-buf-4
 slice-write-buf-4 c = simp length-set (omega arith)
 
-cast-buf-5 : tie.Need-cast-buf-5
-cast-buf-5 c = search needs
-
 slice-write-buf-5 : tie.Need-slice-write-buf-5
 slice-write-buf-5 c = simp length-set (omega arith)
-
-cast-buf-6 : tie.Need-cast-buf-6
-cast-buf-6 c = search needs
-
-slice-write-buf-6 : tie.Need-slice-write-buf-6
-slice-write-buf-6 c = search needs
-
-same-length : tie.Need-same-length
-same-length c = search needs
 
 returns : tie.Need-returns
 returns c = let a = c .args in sets-eq (be16 (a .w0) ++ be16 (a .w1) ++ be16 (a .w2)) (a .buf .now) 0 (omega arith)
@@ -54,17 +27,17 @@ pub put-words-spec : {M : Type 1} → statement M
 put-words-spec =
     tie.close
     (tie.spec
-    cast-buf
-    slice-write-buf
-    cast-buf-2
+    (λ c. search needs)
+    (λ c. search needs)
+    (λ c. search needs)
     slice-write-buf-2
-    cast-buf-3
+    (λ c. search needs)
     slice-write-buf-3
-    cast-buf-4
+    (λ c. search needs)
     slice-write-buf-4
-    cast-buf-5
+    (λ c. search needs)
     slice-write-buf-5
-    cast-buf-6
-    slice-write-buf-6
-    same-length
+    (λ c. search needs)
+    (λ c. search needs)
+    (λ c. search needs)
     returns)

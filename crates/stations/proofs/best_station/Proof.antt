@@ -6,24 +6,6 @@ use borrow.Author.Needs.{needs}
 use Rattle.stations.proofs.best_station.Statement.{statement}
 use Rattle.stations.proofs.best_station.Tie as tie
 
-judge-requires : tie.Need-judge-requires
-judge-requires c κs = search needs
-
-enum-told : tie.Need-enum-told
-enum-told c = search needs
-
-enum-known-v : tie.Need-enum-known-v
-enum-known-v c = search needs
-
-judge-requires-2 : tie.Need-judge-requires-2
-judge-requires-2 c κs = search needs
-
-enum-told-2 : tie.Need-enum-told-2
-enum-told-2 c = search needs
-
-enum-known-w : tie.Need-enum-known-w
-enum-known-w c = search needs
-
 returns : tie.Need-returns
 returns c = choose-first _ _ _ _ (sym (ap verdictAnswer (c .enum-told .given .1)) ∙ c .before .before .judge .ensures)
 
@@ -41,12 +23,12 @@ pub best-station-spec : {M : Type 1} → statement M
 best-station-spec =
     tie.close
     (tie.spec
-    judge-requires
-    enum-told
-    enum-known-v
-    judge-requires-2
-    enum-told-2
-    enum-known-w
+    (λ c κs. search needs)
+    (λ c. search needs)
+    (λ c. search needs)
+    (λ c κs. search needs)
+    (λ c. search needs)
+    (λ c. search needs)
     returns
     returns-2
     returns-3)

@@ -7,13 +7,10 @@ use borrow.Author.Needs.{needs}
 use Rattle.stations_handover.proofs.is_empty.Statement.{statement}
 use Rattle.stations_handover.proofs.is_empty.Tie as tie
 
-best-requires : tie.Need-best-requires
-best-requires c κs = search needs
-
 returns : tie.Need-returns
 returns c =
     let e = c .best .ensures in
     let q = part-empty _ _ _ in (λ z. q .0 (sym e ∙ none-of-length _ (eqb-true _ 0 z)), λ n. eq-eqb _ 0 (ap length (e ∙ q .1 n)))
 
 pub is-empty-spec : {M : Type 1} → statement M
-is-empty-spec = tie.close (tie.spec best-requires returns)
+is-empty-spec = tie.close (tie.spec (λ c κs. search needs) returns)

@@ -9,12 +9,6 @@ use borrow.Author.Needs.{needs}
 use Rattle.stations_handover.proofs.judged.Statement.{statement}
 use Rattle.stations_handover.proofs.judged.Tie as tie
 
-best-requires : tie.Need-best-requires
-best-requires c κs = search needs
-
-judge-requires : tie.Need-judge-requires
-judge-requires c κs = search needs
-
 returns : tie.Need-returns
 returns c =
     let a = c .before .before .before .before .args in
@@ -24,4 +18,4 @@ returns c =
     subst (Judged (a .time-len) (a .first .now) (a .second .now)) (sym e) (part-judged _ _ _ o k)
 
 pub judged-spec : {M : Type 1} → statement M
-judged-spec = tie.close (tie.spec best-requires judge-requires returns)
+judged-spec = tie.close (tie.spec (λ c κs. search needs) (λ c κs. search needs) returns)

@@ -4,11 +4,8 @@ use borrow.Author.Needs.{needs}
 use Rattle.stations_handover.proofs.other_first.Statement.{statement}
 use Rattle.stations_handover.proofs.other_first.Tie as tie
 
-twice-requires : tie.Need-twice-requires
-twice-requires c κs = search needs
-
 returns : tie.Need-returns
 returns c = λ m n p. c .twice .ensures (first-apart _ _ _ _ m n p)
 
 pub other-first-spec : {M : Type 1} → statement M
-other-first-spec = tie.close (tie.spec twice-requires returns)
+other-first-spec = tie.close (tie.spec (λ c κs. search needs) returns)

@@ -4,11 +4,8 @@ use borrow.Author.Needs.{needs}
 use Rattle.stations_handover.proofs.other_second.Statement.{statement}
 use Rattle.stations_handover.proofs.other_second.Tie as tie
 
-twice-requires : tie.Need-twice-requires
-twice-requires c κs = search needs
-
 returns : tie.Need-returns
 returns c = λ p. c .twice .ensures (second-apart _ _ _ _ p)
 
 pub other-second-spec : {M : Type 1} → statement M
-other-second-spec = tie.close (tie.spec twice-requires returns)
+other-second-spec = tie.close (tie.spec (λ c κs. search needs) returns)

@@ -6,21 +6,6 @@ use borrow.Author.Needs.{needs}
 use Rattle.stations_handover.proofs.twice.Statement.{statement}
 use Rattle.stations_handover.proofs.twice.Tie as tie
 
-best-station-requires : tie.Need-best-station-requires
-best-station-requires c κs = search needs
-
-best-station-requires-2 : tie.Need-best-station-requires-2
-best-station-requires-2 c κs = search needs
-
-best-requires : tie.Need-best-requires
-best-requires c κs = search needs
-
-best-requires-2 : tie.Need-best-requires-2
-best-requires-2 c κs = search needs
-
-same-octets-requires : tie.Need-same-octets-requires
-same-octets-requires c κs = search needs
-
 returns : tie.Need-returns
 returns c =
     let k = c .before .before .before in
@@ -33,9 +18,9 @@ pub twice-spec : {M : Type 1} → statement M
 twice-spec =
     tie.close
     (tie.spec
-    best-station-requires
-    best-station-requires-2
-    best-requires
-    best-requires-2
-    same-octets-requires
+    (λ c κs. search needs)
+    (λ c κs. search needs)
+    (λ c κs. search needs)
+    (λ c κs. search needs)
+    (λ c κs. search needs)
     returns)

@@ -7,32 +7,11 @@ use borrow.Author.Needs.{needs}
 use Rattle.tc_compare.proofs.eq_creator_in.Statement.{statement}
 use Rattle.tc_compare.proofs.eq_creator_in.Tie as tie
 
-new-no-checksum-verification-in-requires : tie.Need-new-no-checksum-verification-in-requires
-new-no-checksum-verification-in-requires c κs = search needs
-
-enum-told : tie.Need-enum-told
-enum-told c = search needs
-
-enum-known-read : tie.Need-enum-known-read
-enum-known-read c = search needs
-
-sp-header-requires : tie.Need-sp-header-requires
-sp-header-requires c κs = search needs
-
-eq-requires : tie.Need-eq-requires
-eq-requires c κs = search needs
-
 returns : tie.Need-returns
 returns c =
     let e = sym (c .before .before .before .before .before .before .before .new-no-checksum-verification-in .ensures) ∙ ap recordAnswer (c .before .before .before .before .before .read .given .1) in
     let h = rw (c .before .before .sp-header .ensures) at (sym (c .before .eq .ensures) ∙ not-true (c .before .eq .result) (c .if1 .taken)) in
     sym (creator-compared _ _ _ _ _ _ _ e h refl)
-
-sec-header-requires : tie.Need-sec-header-requires
-sec-header-requires c κs = search needs
-
-eq-requires-2 : tie.Need-eq-requires-2
-eq-requires-2 c κs = search needs
 
 returns-2 : tie.Need-returns-2
 returns-2 c =
@@ -40,12 +19,6 @@ returns-2 c =
     let h = rw (c .before .before .before .before .before .before .sp-header .ensures) at (sym (c .before .before .before .before .before .eq .ensures) ∙ not-false (c .before .before .before .before .before .eq .result) (c .before .before .before .before .if1 .left)) in
     let x = rw (c .before .before .sec-header .ensures) at (sym (c .before .eq2 .ensures) ∙ not-true (c .before .eq2 .result) (c .if2 .taken)) in
     sym (creator-compared _ _ _ _ _ _ _ e h x)
-
-app-data-in-requires : tie.Need-app-data-in-requires
-app-data-in-requires c κs = search needs
-
-same-octets-requires : tie.Need-same-octets-requires
-same-octets-requires c κs = search needs
 
 returns-3 : tie.Need-returns-3
 returns-3 c = let e = sym (c .before .before .new-no-checksum-verification-in .ensures) ∙ ap recordAnswer (c .enum-told .given .1) in rw e refl
@@ -61,16 +34,16 @@ pub eq-creator-in-spec : {M : Type 1} → statement M
 eq-creator-in-spec =
     tie.close
     (tie.spec
-    new-no-checksum-verification-in-requires
-    enum-told
-    enum-known-read
-    sp-header-requires
-    eq-requires
+    (λ c κs. search needs)
+    (λ c. search needs)
+    (λ c. search needs)
+    (λ c κs. search needs)
+    (λ c κs. search needs)
     returns
-    sec-header-requires
-    eq-requires-2
+    (λ c κs. search needs)
+    (λ c κs. search needs)
     returns-2
-    app-data-in-requires
-    same-octets-requires
+    (λ c κs. search needs)
+    (λ c κs. search needs)
     returns-3
     returns-4)

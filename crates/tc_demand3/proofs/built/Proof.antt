@@ -40,18 +40,6 @@ made-judged f good t p before v g k e w =
     subst (λ (u : PusTcCreator). formCheck (u .form) ≡ gives tt → u .«has_checksum» ≡ true → Rules (tc (u .form)) (packetBy (u .«sp_header») (u .«sec_header») (p .user)) → Fits (tc (u .form)) (p .user) before → Accepts (u .form) v (packetBy (u .«sp_header») (u .«sec_header») (p .user))) e w
     good refl (handed-rules (commandIn f) (writer-laws f good) (p .primary) (p .secondary) (p .user) g) k
 
-build-requires : tie.Need-build-requires
-build-requires c κs = search needs
-
-enum-known-made : tie.Need-enum-known-made
-enum-known-made c = search needs
-
-enum-known-made-2 : tie.Need-enum-known-made-2
-enum-known-made-2 c = search needs
-
-written-requires : tie.Need-written-requires
-written-requires c κs = search needs
-
 returns : tie.Need-returns
 returns c =
     let a = c .before .before .before .before .before .before .args in
@@ -59,9 +47,6 @@ returns c =
     λ good h g k.
     let m = sym (ap creatorAnswer (c .before .made .given .1)) ∙ c .before .before .before .build .ensures ∙ built-given (t .form) good (packetBy (t .«sp_header») (t .«sec_header») (a .app-data .now)) (t .«has_checksum») h g in
     absurd (never _ _ m)
-
-same-length : tie.Need-same-length
-same-length c = search needs
 
 returns-2 : tie.Need-returns-2
 returns-2 c =
@@ -76,10 +61,10 @@ pub built-spec : {M : Type 1} → statement M
 built-spec =
     tie.close
     (tie.spec
-    build-requires
-    enum-known-made
-    enum-known-made-2
-    written-requires
+    (λ c κs. search needs)
+    (λ c. search needs)
+    (λ c. search needs)
+    (λ c κs. search needs)
     returns
-    same-length
+    (λ c. search needs)
     returns-2)

@@ -5,14 +5,8 @@ use borrow.Author.Needs.{needs}
 use Rattle.tc_demand3.proofs.changed.Statement.{statement}
 use Rattle.tc_demand3.proofs.changed.Tie as tie
 
-judge-in-requires : tie.Need-judge-in-requires
-judge-in-requires c κs = search needs
-
-judge-in-requires-2 : tie.Need-judge-in-requires-2
-judge-in-requires-2 c κs = search needs
-
 returns : tie.Need-returns
 returns c = λ good. both-answered _ _ (c .before .judge-in .ensures) (c .judge-in2 .ensures) (changed-refused _ good _ _)
 
 pub changed-spec : {M : Type 1} → statement M
-changed-spec = tie.close (tie.spec judge-in-requires judge-in-requires-2 returns)
+changed-spec = tie.close (tie.spec (λ c κs. search needs) (λ c κs. search needs) returns)

@@ -12,9 +12,6 @@ use borrow.Author.Needs.{needs}
 use Rattle.tc_demand3.proofs.judged.Statement.{statement}
 use Rattle.tc_demand3.proofs.judged.Tie as tie
 
-judge-in-requires : tie.Need-judge-in-requires
-judge-in-requires c κs = search needs
-
 returns : tie.Need-returns
 returns c =
     let a = c .before .before .args in
@@ -24,4 +21,4 @@ returns c =
     λ good. subst (λ (v : Answer PusTcRecord). Exact (tc (a .form)) (reportFor (a .form)) v s) (sym e) (exact (a .form) good s o)
 
 pub judged-spec : {M : Type 1} → statement M
-judged-spec = tie.close (tie.spec judge-in-requires returns)
+judged-spec = tie.close (tie.spec (λ c κs. search needs) returns)

@@ -7,34 +7,10 @@ use borrow.Author.Needs.{needs}
 use Rattle.tc_demand3.proofs.ping.Statement.{statement}
 use Rattle.tc_demand3.proofs.ping.Tie as tie
 
-ping-builder-requires : tie.Need-ping-builder-requires
-ping-builder-requires c κs = search needs
-
-slice-aggregate-build : tie.Need-slice-aggregate-build
-slice-aggregate-build c = search needs
-
-build-requires : tie.Need-build-requires
-build-requires c κs = search needs
-
-enum-known-made : tie.Need-enum-known-made
-enum-known-made c = search needs
-
-enum-known-made-2 : tie.Need-enum-known-made-2
-enum-known-made-2 c = search needs
-
-slice-aggregate-write-to-slice : tie.Need-slice-aggregate-write-to-slice
-slice-aggregate-write-to-slice c = search needs
-
-write-to-slice-requires : tie.Need-write-to-slice-requires
-write-to-slice-requires c κs = search needs
-
 returns : tie.Need-returns
 returns c =
     let b = c .before .before .before in
     λ a n. absurd (never _ _ (sym (ap creatorAnswer (c .before .made .given .1)) ∙ b .build .ensures ∙ ping-made _ (b .before .before .ping-builder .ensures a n)))
-
-same-length : tie.Need-same-length
-same-length c = search needs
 
 returns-2 : tie.Need-returns-2
 returns-2 c =
@@ -50,13 +26,13 @@ pub ping-spec : {M : Type 1} → statement M
 ping-spec =
     tie.close
     (tie.spec
-    ping-builder-requires
-    slice-aggregate-build
-    build-requires
-    enum-known-made
-    enum-known-made-2
-    slice-aggregate-write-to-slice
-    write-to-slice-requires
+    (λ c κs. search needs)
+    (λ c. search needs)
+    (λ c κs. search needs)
+    (λ c. search needs)
+    (λ c. search needs)
+    (λ c. search needs)
+    (λ c κs. search needs)
     returns
-    same-length
+    (λ c. search needs)
     returns-2)

@@ -4,24 +4,6 @@ use Rattle.tc_demand3.proofs.Pinged.{by-setters}
 use Rattle.tc_demand3.proofs.ping_builder.Statement.{statement}
 use Rattle.tc_demand3.proofs.ping_builder.Tie as tie
 
-new-requires : tie.Need-new-requires
-new-requires c κs = search needs
-
-new-requires-2 : tie.Need-new-requires-2
-new-requires-2 c κs = search needs
-
-with-message-type-id-requires : tie.Need-with-message-type-id-requires
-with-message-type-id-requires c κs = search needs
-
-with-apid-requires : tie.Need-with-apid-requires
-with-apid-requires c κs = search needs
-
-with-sequence-count-requires : tie.Need-with-sequence-count-requires
-with-sequence-count-requires c κs = search needs
-
-with-ack-flags-requires : tie.Need-with-ack-flags-requires
-with-ack-flags-requires c κs = search needs
-
 returns : tie.Need-returns
 returns c =
     let n = c .before .before in
@@ -33,10 +15,10 @@ pub ping-builder-spec : {M : Type 1} → statement M
 ping-builder-spec =
     tie.close
     (tie.spec
-    new-requires
-    new-requires-2
-    with-message-type-id-requires
-    with-apid-requires
-    with-sequence-count-requires
-    with-ack-flags-requires
+    (λ c κs. search needs)
+    (λ c κs. search needs)
+    (λ c κs. search needs)
+    (λ c κs. search needs)
+    (λ c κs. search needs)
+    (λ c κs. search needs)
     returns)

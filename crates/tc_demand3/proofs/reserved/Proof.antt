@@ -40,27 +40,6 @@ accepted f good p before g k q l m after r e o h w =
     let b : FinishedBy (commandIn f) (startIn (q .form)) (q .held) p before r after = record { headed = l; filled = m; reserves = o; fills = h; finishes = w } in
     t .2 r after (subst (λ (z : PusTcCreatorWithReservedAppData). FinishedBy (commandIn f) (startIn (z .form)) (z .held) p before r after) i b) .accepted
 
-new-in-requires : tie.Need-new-in-requires
-new-in-requires c κs = search needs
-
-enum-known-made : tie.Need-enum-known-made
-enum-known-made c = search needs
-
-enum-known-made-2 : tie.Need-enum-known-made-2
-enum-known-made-2 c = search needs
-
-fill-app-data-requires : tie.Need-fill-app-data-requires
-fill-app-data-requires c κs = search needs
-
-finish-requires : tie.Need-finish-requires
-finish-requires c κs = search needs
-
-judge-in-requires : tie.Need-judge-in-requires
-judge-in-requires c κs = search needs
-
-same-length : tie.Need-same-length
-same-length c = search needs
-
 returns : tie.Need-returns
 returns c =
     let a = c .before .before .before .before .before .before .before .before .before .args in
@@ -68,9 +47,6 @@ returns c =
     let t = reserved-accepted (a .form) good (packetBy (a .sp-header) (a .sec-header) (a .app-data .now)) (a .buf .now) g (record { fits = k; is-slice = omega arith }) in
     let m = sym (ap reservedAnswer (c .before .made .given .1)) ∙ c .before .before .before .before .before .new-in .ensures .0 ∙ t .1 in
     absurd (never _ _ m)
-
-same-length-2 : tie.Need-same-length-2
-same-length-2 c = search needs
 
 returns-2 : tie.Need-returns-2
 returns-2 c =
@@ -84,13 +60,13 @@ pub reserved-spec : {M : Type 1} → statement M
 reserved-spec =
     tie.close
     (tie.spec
-    new-in-requires
-    enum-known-made
-    enum-known-made-2
-    fill-app-data-requires
-    finish-requires
-    judge-in-requires
-    same-length
+    (λ c κs. search needs)
+    (λ c. search needs)
+    (λ c. search needs)
+    (λ c κs. search needs)
+    (λ c κs. search needs)
+    (λ c κs. search needs)
+    (λ c. search needs)
     returns
-    same-length-2
+    (λ c. search needs)
     returns-2)

@@ -23,18 +23,6 @@ with-checksum : (t : PusTcCreator) (d before after : List ℕ) (r : SizeResult) 
 with-checksum t d before after r e w =
     subst (λ (b : Bool). PacketWrote (creatorIn (t .form) (t .«sp_header») (t .«sec_header») b) d before r after) e w
 
-write-requires : tie.Need-write-requires
-write-requires c κs = search needs
-
-form-requires : tie.Need-form-requires
-form-requires c κs = search needs
-
-judge-in-requires : tie.Need-judge-in-requires
-judge-in-requires c κs = search needs
-
-same-length : tie.Need-same-length
-same-length c = search needs
-
 returns : tie.Need-returns
 returns c =
     let a = c .before .before .before .before .before .before .before .before .before .args in
@@ -45,4 +33,4 @@ returns c =
     ∙ written-accepted (t .form) good (t .«sp_header») (t .«sec_header») (a .app-data .now) (a .buf .now) _ _ u (record { fits = m; is-slice = omega arith }) (with-checksum t (a .app-data .now) (a .buf .now) _ _ h w) .accepted
 
 pub written-spec : {M : Type 1} → statement M
-written-spec = tie.close (tie.spec write-requires form-requires judge-in-requires same-length returns)
+written-spec = tie.close (tie.spec (λ c κs. search needs) (λ c κs. search needs) (λ c κs. search needs) (λ c. search needs) returns)

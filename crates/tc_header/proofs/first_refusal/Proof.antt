@@ -6,12 +6,6 @@ use borrow.Author.Needs.{needs}
 use Rattle.tc_header.proofs.first_refusal.Statement.{statement}
 use Rattle.tc_header.proofs.first_refusal.Tie as tie
 
-enum-told : tie.Need-enum-told
-enum-told c = search needs
-
-enum-told-2 : tie.Need-enum-told-2
-enum-told-2 c = search needs
-
 returns : tie.Need-returns
 returns c = let k = ap checkAnswer (c .enum-told .given .1) in k ∙ sym (refuses-then _ _ _ k)
 
@@ -19,4 +13,4 @@ returns-2 : tie.Need-returns-2
 returns-2 c = sym (gives-then _ _ _ (ap checkAnswer (c .enum-told2 .given .1)))
 
 pub first-refusal-spec : {M : Type 1} → statement M
-first-refusal-spec = tie.close (tie.spec enum-told enum-told-2 returns returns-2)
+first-refusal-spec = tie.close (tie.spec (λ c. search needs) (λ c. search needs) returns returns-2)

@@ -9,19 +9,10 @@ use borrow.Author.Needs.{needs}
 use Rattle.tc_header.proofs.shared_rule.Statement.{statement}
 use Rattle.tc_header.proofs.shared_rule.Tie as tie
 
-raw-value-requires : tie.Need-raw-value-requires
-raw-value-requires c κs = search needs
-
-octet-at-requires : tie.Need-octet-at-requires
-octet-at-requires c κs = search needs
-
-pus-rule-requires : tie.Need-pus-rule-requires
-pus-rule-requires c κs = search needs
-
 returns : tie.Need-returns
 returns c = let a = c .before .before .before .before .args in
     c .pus-rule .ensures ∙ ap₂ (λ (v o : ℕ). pusRule Tc (refusal 10 []) v (a .h) o) (c .before .before .raw-value .ensures) (c .before .octet-at .ensures)
 
 pub shared-rule-spec : {M : Type 1} → statement M
 shared-rule-spec =
-    tie.close (tie.spec raw-value-requires octet-at-requires pus-rule-requires returns)
+    tie.close (tie.spec (λ c κs. search needs) (λ c κs. search needs) (λ c κs. search needs) returns)

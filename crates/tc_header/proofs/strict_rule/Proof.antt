@@ -6,15 +6,6 @@ use borrow.Author.Needs.{needs}
 use Rattle.tc_header.proofs.strict_rule.Statement.{statement}
 use Rattle.tc_header.proofs.strict_rule.Tie as tie
 
-shared-rule-requires : tie.Need-shared-rule-requires
-shared-rule-requires c κs = search needs
-
-check-spare-requires : tie.Need-check-spare-requires
-check-spare-requires c κs = search needs
-
-first-refusal-requires : tie.Need-first-refusal-requires
-first-refusal-requires c κs = search needs
-
 returns : tie.Need-returns
 unfolding strictRule
 returns c = c .first-refusal .ensures ∙ ap₂ (λ (p q : Passed). p then λ _. q) (c .before .before .shared-rule .ensures) (c .before .check-spare .ensures)
@@ -22,4 +13,4 @@ returns c = c .first-refusal .ensures ∙ ap₂ (λ (p q : Passed). p then λ _.
 pub strict-rule-spec : {M : Type 1} → statement M
 strict-rule-spec =
     tie.close
-    (tie.spec shared-rule-requires check-spare-requires first-refusal-requires returns)
+    (tie.spec (λ c κs. search needs) (λ c κs. search needs) (λ c κs. search needs) returns)

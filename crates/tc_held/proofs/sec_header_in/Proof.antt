@@ -12,25 +12,10 @@ use Rattle.tc_header.proofs.PusTcSecondaryHeader.new_simple.Reads as new-simple
 use Rattle.tc_read.proofs.PusTcRecord.new_no_checksum_verification.Reads as new-no-checksum-verification-reads
 
 -- src/lib.rt:33:9
-new-no-checksum-verification-requires : tie.Need-new-no-checksum-verification-requires
-new-no-checksum-verification-requires c κs = search needs
-
 -- src/lib.rt:35:71
-enum-told : tie.Need-enum-told
-enum-told c = search needs
-
 -- src/lib.rt:35:71
-new-requires : tie.Need-new-requires
-new-requires c κs = search needs
-
 -- src/lib.rt:35:38
-new-simple-requires : tie.Need-new-simple-requires
-new-simple-requires c κs = search needs
-
 -- src/lib.rt:36:31
-enum-known-read : tie.Need-enum-known-read
-enum-known-read c = search needs
-
 -- src/lib.rt:30:1
 returns : tie.Need-returns
 returns c =
@@ -47,10 +32,10 @@ pub sec-header-in-spec : {M : Type 1} → statement M
 sec-header-in-spec =
     tie.close
     (tie.spec
-    new-no-checksum-verification-requires
-    enum-told
-    new-requires
-    new-simple-requires
-    enum-known-read
+    (λ c κs. search needs)
+    (λ c. search needs)
+    (λ c κs. search needs)
+    (λ c κs. search needs)
+    (λ c. search needs)
     returns
     returns-2)

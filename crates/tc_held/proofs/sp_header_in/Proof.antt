@@ -11,21 +11,9 @@ use Rattle.space_packet.proofs.SpacePacketHeader.default.Reads as default-reads
 use Rattle.tc_read.proofs.PusTcRecord.new_no_checksum_verification.Reads as new-no-checksum-verification-reads
 
 -- src/lib.rt:23:9
-new-no-checksum-verification-requires : tie.Need-new-no-checksum-verification-requires
-new-no-checksum-verification-requires c κs = search needs
-
 -- src/lib.rt:25:38
-enum-told : tie.Need-enum-told
-enum-told c = search needs
-
 -- src/lib.rt:25:38
-default-requires : tie.Need-default-requires
-default-requires c κs = search needs
-
 -- src/lib.rt:26:31
-enum-known-read : tie.Need-enum-known-read
-enum-known-read c = search needs
-
 -- src/lib.rt:20:1
 returns : tie.Need-returns
 returns c =
@@ -42,9 +30,9 @@ pub sp-header-in-spec : {M : Type 1} → statement M
 sp-header-in-spec =
     tie.close
     (tie.spec
-    new-no-checksum-verification-requires
-    enum-told
-    default-requires
-    enum-known-read
+    (λ c κs. search needs)
+    (λ c. search needs)
+    (λ c κs. search needs)
+    (λ c. search needs)
     returns
     returns-2)

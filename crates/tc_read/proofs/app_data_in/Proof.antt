@@ -7,15 +7,6 @@ use borrow.Author.Needs.{needs}
 use Rattle.tc_read.proofs.app_data_in.Statement.{statement}
 use Rattle.tc_read.proofs.app_data_in.Tie as tie
 
-check-requires : tie.Need-check-requires
-check-requires c κs = search needs
-
-min-len-without-app-data-requires : tie.Need-min-len-without-app-data-requires
-min-len-without-app-data-requires c κs = search needs
-
-data-part-requires : tie.Need-data-part-requires
-data-part-requires c κs = search needs
-
 returns : tie.Need-returns
 returns c =
     let a = c .before .before .before .before .args in
@@ -24,4 +15,4 @@ returns c =
 pub app-data-in-spec : {M : Type 1} → statement M
 app-data-in-spec =
     tie.close
-    (tie.spec check-requires min-len-without-app-data-requires data-part-requires returns)
+    (tie.spec (λ c κs. search needs) (λ c κs. search needs) (λ c κs. search needs) returns)

@@ -7,15 +7,6 @@ use borrow.Author.Needs.{needs}
 use Rattle.tc_read.proofs.raw_data_in.Statement.{statement}
 use Rattle.tc_read.proofs.raw_data_in.Tie as tie
 
-check-requires : tie.Need-check-requires
-check-requires c κs = search needs
-
-min-len-without-app-data-requires : tie.Need-min-len-without-app-data-requires
-min-len-without-app-data-requires c κs = search needs
-
-raw-part-requires : tie.Need-raw-part-requires
-raw-part-requires c κs = search needs
-
 returns : tie.Need-returns
 returns c =
     let a = c .before .before .before .before .args in
@@ -23,4 +14,4 @@ returns c =
 
 pub raw-data-in-spec : {M : Type 1} → statement M
 raw-data-in-spec =
-    tie.close (tie.spec check-requires min-len-without-app-data-requires raw-part-requires returns)
+    tie.close (tie.spec (λ c κs. search needs) (λ c κs. search needs) (λ c κs. search needs) returns)

@@ -6,15 +6,6 @@ use borrow.Author.Needs.{needs}
 use Rattle.tc_reserved.proofs.reservation.Statement.{statement}
 use Rattle.tc_reserved.proofs.reservation.Tie as tie
 
-enum-known-reserved : tie.Need-enum-known-reserved
-enum-known-reserved c = search needs
-
-enum-known-reserved-2 : tie.Need-enum-known-reserved-2
-enum-known-reserved-2 c = search needs
-
-min-len-without-app-data-requires : tie.Need-min-len-without-app-data-requires
-min-len-without-app-data-requires c κs = search needs
-
 returns : tie.Need-returns
 returns c = sym (refuses-then _ _ _ (ap sizeAnswer (c .before .reserved .given .1)))
 
@@ -26,8 +17,8 @@ pub reservation-spec : {M : Type 1} → statement M
 reservation-spec =
     tie.close
     (tie.spec
-    enum-known-reserved
-    enum-known-reserved-2
-    min-len-without-app-data-requires
+    (λ c. search needs)
+    (λ c. search needs)
+    (λ c κs. search needs)
     returns
     returns-2)

@@ -8,27 +8,6 @@ use borrow.Author.Needs.{needs}
 use Rattle.tc_strict.proofs.judge_in.Statement.{statement}
 use Rattle.tc_strict.proofs.judge_in.Tie as tie
 
-new-in-requires : tie.Need-new-in-requires
-new-in-requires c κs = search needs
-
-enum-known-read : tie.Need-enum-known-read
-enum-known-read c = search needs
-
-enum-known-read-2 : tie.Need-enum-known-read-2
-enum-known-read-2 c = search needs
-
-sec-header-part-requires : tie.Need-sec-header-part-requires
-sec-header-part-requires c κs = search needs
-
-strict-rule-requires : tie.Need-strict-rule-requires
-strict-rule-requires c κs = search needs
-
-enum-known-c : tie.Need-enum-known-c
-enum-known-c c = search needs
-
-enum-told : tie.Need-enum-told
-enum-told c = search needs
-
 returns : tie.Need-returns
 returns c = let e = sym (c .before .before .before .new-in .ensures) ∙ ap recordAnswer (c .before .read .given .1) in sym (verdict-refused _ _ _ e)
 
@@ -46,13 +25,13 @@ pub judge-in-spec : {M : Type 1} → statement M
 judge-in-spec =
     tie.close
     (tie.spec
-    new-in-requires
-    enum-known-read
-    enum-known-read-2
-    sec-header-part-requires
-    strict-rule-requires
-    enum-known-c
-    enum-told
+    (λ c κs. search needs)
+    (λ c. search needs)
+    (λ c. search needs)
+    (λ c κs. search needs)
+    (λ c κs. search needs)
+    (λ c. search needs)
+    (λ c. search needs)
     returns
     returns-2
     returns-3)

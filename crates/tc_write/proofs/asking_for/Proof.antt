@@ -6,15 +6,6 @@ use borrow.Author.Needs.{needs}
 use Rattle.tc_write.proofs.asking_for.Statement.{statement}
 use Rattle.tc_write.proofs.asking_for.Tie as tie
 
-default-requires : tie.Need-default-requires
-default-requires c κs = search needs
-
-with-acceptance-requires : tie.Need-with-acceptance-requires
-with-acceptance-requires c κs = search needs
-
-with-completion-requires : tie.Need-with-completion-requires
-with-completion-requires c κs = search needs
-
 returns : tie.Need-returns
 returns c =
     let a = c .before .before .before .args in
@@ -24,4 +15,4 @@ returns c =
 
 pub asking-for-spec : {M : Type 1} → statement M
 asking-for-spec =
-    tie.close (tie.spec default-requires with-acceptance-requires with-completion-requires returns)
+    tie.close (tie.spec (λ c κs. search needs) (λ c κs. search needs) (λ c κs. search needs) returns)

@@ -3,18 +3,9 @@ use borrow.Author.Needs.{needs}
 use Rattle.tc_write.proofs.asks.Statement.{statement}
 use Rattle.tc_write.proofs.asks.Tie as tie
 
-check-requires : tie.Need-check-requires
-check-requires c κs = search needs
-
-check-fields-in-requires : tie.Need-check-fields-in-requires
-check-fields-in-requires c κs = search needs
-
-check-version-in-requires : tie.Need-check-version-in-requires
-check-version-in-requires c κs = search needs
-
 returns : tie.Need-returns
 returns c = λ i. record { first = c .before .before .check .ensures i; fields = c .before .check-fields-in .ensures i; version = c .check-version-in .ensures i }
 
 pub asks-spec : {M : Type 1} → statement M
 asks-spec =
-    tie.close (tie.spec check-requires check-fields-in-requires check-version-in-requires returns)
+    tie.close (tie.spec (λ c κs. search needs) (λ c κs. search needs) (λ c κs. search needs) returns)

@@ -5,11 +5,8 @@ use borrow.Author.Needs.{needs}
 use Rattle.tc_write.proofs.simple.Statement.{statement}
 use Rattle.tc_write.proofs.simple.Tie as tie
 
-version-requires : tie.Need-version-requires
-version-requires c κs = search needs
-
 returns : tie.Need-returns
 returns c = ap (secFrom (c .before .args .message-type-id) (c .before .args .ack-flags) 0) (c .version .ensures)
 
 pub simple-spec : {M : Type 1} → statement M
-simple-spec = tie.close (tie.spec version-requires returns)
+simple-spec = tie.close (tie.spec (λ c κs. search needs) returns)

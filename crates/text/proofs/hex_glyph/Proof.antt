@@ -5,12 +5,6 @@ use borrow.Author.Needs.{needs}
 use Rattle.text.proofs.hex_glyph.Statement.{statement}
 use Rattle.text.proofs.hex_glyph.Tie as tie
 
-add-result : tie.Need-add-result
-add-result c = search needs
-
-add-result-2 : tie.Need-add-result-2
-add-result-2 c = search needs
-
 returns : tie.Need-returns
 unfolding hexGlyph
 returns c = simp (lt-ltb _ _ (c .if1 .taken))
@@ -20,4 +14,4 @@ unfolding hexGlyph
 returns-2 c = simp (le-ltb _ _ (c .if1 .left))
 
 pub hex-glyph-spec : {M : Type 1} → statement M
-hex-glyph-spec = tie.close (tie.spec add-result add-result-2 returns returns-2)
+hex-glyph-spec = tie.close (tie.spec (λ c. search needs) (λ c. search needs) returns returns-2)

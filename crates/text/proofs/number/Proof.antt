@@ -13,12 +13,9 @@ returns-2 : tie.Need-returns-2
 unfolding numberOf
 returns-2 c = simp (ne-eqb _ _ (c .before .if1 .left), lt-ltb _ _ (c .if2 .taken))
 
-digits-requires : tie.Need-digits-requires
-digits-requires c κs = search needs
-
 returns-3 : tie.Need-returns-3
 unfolding numberOf
 returns-3 c = simp (ne-eqb _ _ (c .before .before .if1 .left), le-ltb _ _ (c .before .if2 .left)) (c .digits .ensures)
 
 pub number-spec : {M : Type 1} → statement M
-number-spec = tie.close (tie.spec returns returns-2 digits-requires returns-3)
+number-spec = tie.close (tie.spec returns returns-2 (λ c κs. search needs) returns-3)

@@ -14,9 +14,6 @@ returns : tie.Need-returns
 unfolding octetsOf
 returns c = simp (eq-eqb _ _ (c .if1 .taken))
 
-shared-slice-read-if3 : tie.Need-shared-slice-read-if3
-shared-slice-read-if3 c = search needs
-
 returns-2 : tie.Need-returns-2
 unfolding octetsOf
 returns-2 c = simp (ne-eqb _ _ (c .before .before .before .if1 .left), eq-eqb _ _ (c .before .before .if2 .taken), eq-eqb _ _ (c .if3 .taken))
@@ -29,14 +26,8 @@ returns-4 : tie.Need-returns-4
 unfolding octetsOf
 returns-4 c = simp (ne-eqb _ _ (c .before .before .if1 .left), ne-eqb _ _ (c .before .if2 .left), lt-ltb _ _ (c .if4 .taken))
 
-are-pairs-requires : tie.Need-are-pairs-requires
-are-pairs-requires c κs = search needs
-
 decode-requires : tie.Need-decode-requires
 decode-requires c κs = sym (c .before .before .are-pairs .ensures) ∙ c .before .if5 .taken
-
-same-length : tie.Need-same-length
-same-length c = search needs
 
 returns-5 : tie.Need-returns-5
 unfolding octetsOf
@@ -55,12 +46,12 @@ octets-spec =
     tie.close
     (tie.spec
     returns
-    shared-slice-read-if3
+    (λ c. search needs)
     returns-2
     returns-3
     returns-4
-    are-pairs-requires
+    (λ c κs. search needs)
     decode-requires
-    same-length
+    (λ c. search needs)
     returns-5
     returns-6)

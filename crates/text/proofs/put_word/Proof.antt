@@ -5,21 +5,6 @@ use borrow.Author.Needs.{needs}
 use Rattle.text.proofs.put_word.Statement.{statement}
 use Rattle.text.proofs.put_word.Tie as tie
 
-cast-put-octet : tie.Need-cast-put-octet
-cast-put-octet c = search needs
-
-put-octet-requires : tie.Need-put-octet-requires
-put-octet-requires c κs = search needs
-
-cast-put-octet-2 : tie.Need-cast-put-octet-2
-cast-put-octet-2 c = search needs
-
-put-octet-requires-2 : tie.Need-put-octet-requires-2
-put-octet-requires-2 c κs = search needs
-
-same-length : tie.Need-same-length
-same-length c = search needs
-
 returns : tie.Need-returns
 unfolding hexText
 returns c =
@@ -31,9 +16,9 @@ pub put-word-spec : {M : Type 1} → statement M
 put-word-spec =
     tie.close
     (tie.spec
-    cast-put-octet
-    put-octet-requires
-    cast-put-octet-2
-    put-octet-requires-2
-    same-length
+    (λ c. search needs)
+    (λ c κs. search needs)
+    (λ c. search needs)
+    (λ c κs. search needs)
+    (λ c. search needs)
     returns)

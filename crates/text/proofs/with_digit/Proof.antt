@@ -11,22 +11,13 @@ returns : tie.Need-returns
 unfolding withDigit
 returns c = simp (lt-ltb _ _ (c .if1 .taken))
 
-sub-if2 : tie.Need-sub-if2
-sub-if2 c = search needs
-
 returns-2 : tie.Need-returns-2
 unfolding withDigit
 returns-2 c = simp (le-ltb _ _ (c .before .if1 .left), lt-ltb 18446744073709551615 (c .before .before .args .n * 10 + c .before .before .args .d) (omega arith))
-
-mul-t5 : tie.Need-mul-t5
-mul-t5 c = search needs
-
-add-t6 : tie.Need-add-t6
-add-t6 c = search needs
 
 returns-3 : tie.Need-returns-3
 unfolding withDigit
 returns-3 c = simp (le-ltb _ _ (c .before .if1 .left), le-ltb 18446744073709551615 (c .before .before .args .n * 10 + c .before .before .args .d) (omega arith))
 
 pub with-digit-spec : {M : Type 1} → statement M
-with-digit-spec = tie.close (tie.spec returns sub-if2 returns-2 mul-t5 add-t6 returns-3)
+with-digit-spec = tie.close (tie.spec returns (λ c. search needs) returns-2 (λ c. search needs) (λ c. search needs) returns-3)

@@ -7,16 +7,10 @@ use borrow.Author.Needs.{needs}
 use Rattle.tm_compare.proofs.eq_creator.Statement.{statement}
 use Rattle.tm_compare.proofs.eq_creator.Tie as tie
 
-time-len-requires : tie.Need-time-len-requires
-time-len-requires c κs = search needs
-
-same-parts-requires : tie.Need-same-parts-requires
-same-parts-requires c κs = search needs
-
 returns : tie.Need-returns
 returns c =
     let a = c .before .before .before .before .before .args in
     ap₂ (λ (n : ℕ) (v : Bool). eqb (a .time-len) n && v) (c .before .time-len .ensures) (c .same-parts .ensures)
 
 pub eq-creator-spec : {M : Type 1} → statement M
-eq-creator-spec = tie.close (tie.spec time-len-requires same-parts-requires returns)
+eq-creator-spec = tie.close (tie.spec (λ c κs. search needs) (λ c κs. search needs) returns)

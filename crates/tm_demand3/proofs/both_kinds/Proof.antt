@@ -5,14 +5,8 @@ use borrow.Author.Needs.{needs}
 use Rattle.tm_demand3.proofs.both_kinds.Statement.{statement}
 use Rattle.tm_demand3.proofs.both_kinds.Tie as tie
 
-judge-requires : tie.Need-judge-requires
-judge-requires c κs = search needs
-
-judge-in-requires : tie.Need-judge-in-requires
-judge-in-requires c κs = search needs
-
 returns : tie.Need-returns
 returns c = λ q r a b. never-both _ _ _ q r (sym (c .before .judge .ensures) ∙ a) (sym (c .judge-in .ensures) ∙ b)
 
 pub both-kinds-spec : {M : Type 1} → statement M
-both-kinds-spec = tie.close (tie.spec judge-requires judge-in-requires returns)
+both-kinds-spec = tie.close (tie.spec (λ c κs. search needs) (λ c κs. search needs) returns)

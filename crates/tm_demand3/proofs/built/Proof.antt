@@ -48,30 +48,12 @@ module _ (t : ℕ) (good : timeLimit t ≡ gives tt) (p : Telemetry) (g : Handed
   made-judged c before v k e w =
       subst (Judged (p .secondary .time) (p .user) before v) e w good refl (handed-rules (reportBy t) (laws t good) (p .primary) (p .secondary) (p .user) g) k
 
-default-requires : tie.Need-default-requires
-default-requires c κs = search needs
-
-new-requires : tie.Need-new-requires
-new-requires c κs = search needs
-
-enum-known-made : tie.Need-enum-known-made
-enum-known-made c = search needs
-
-enum-known-made-2 : tie.Need-enum-known-made-2
-enum-known-made-2 c = search needs
-
-written-requires : tie.Need-written-requires
-written-requires c κs = search needs
-
 returns : tie.Need-returns
 returns c =
     let k = c .before .before .before in
     let a = k .before .before .before .before .before .args in
     let p = packetBy (a .sp-header) (timed (a .sec-header) (a .time .now)) (a .source-data .now) in
     λ good g _. absurd (never _ _ (sym (ap creatorAnswer (c .before .made .given .1)) ∙ k .new .ensures ∙ by-default _ _ p (k .before .default .ensures) ∙ built-given (a .time-len) good p g))
-
-same-length : tie.Need-same-length
-same-length c = search needs
 
 returns-2 : tie.Need-returns-2
 returns-2 c =
@@ -86,11 +68,11 @@ pub built-spec : {M : Type 1} → statement M
 built-spec =
     tie.close
     (tie.spec
-    default-requires
-    new-requires
-    enum-known-made
-    enum-known-made-2
-    written-requires
+    (λ c κs. search needs)
+    (λ c κs. search needs)
+    (λ c. search needs)
+    (λ c. search needs)
+    (λ c κs. search needs)
     returns
-    same-length
+    (λ c. search needs)
     returns-2)

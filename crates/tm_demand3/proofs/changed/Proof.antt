@@ -5,14 +5,8 @@ use borrow.Author.Needs.{needs}
 use Rattle.tm_demand3.proofs.changed.Statement.{statement}
 use Rattle.tm_demand3.proofs.changed.Tie as tie
 
-judge-requires : tie.Need-judge-requires
-judge-requires c κs = search needs
-
-judge-requires-2 : tie.Need-judge-requires-2
-judge-requires-2 c κs = search needs
-
 returns : tie.Need-returns
 returns c = λ good. both-answered _ _ (c .before .judge .ensures) (c .judge2 .ensures) (changed-refused _ good _ _)
 
 pub changed-spec : {M : Type 1} → statement M
-changed-spec = tie.close (tie.spec judge-requires judge-requires-2 returns)
+changed-spec = tie.close (tie.spec (λ c κs. search needs) (λ c κs. search needs) returns)

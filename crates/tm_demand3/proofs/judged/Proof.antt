@@ -12,9 +12,6 @@ use borrow.Author.Needs.{needs}
 use Rattle.tm_demand3.proofs.judged.Statement.{statement}
 use Rattle.tm_demand3.proofs.judged.Tie as tie
 
-judge-requires : tie.Need-judge-requires
-judge-requires c κs = search needs
-
 returns : tie.Need-returns
 returns c =
     let a = c .before .before .args in
@@ -25,4 +22,4 @@ returns c =
     λ good. subst (λ (v : Answer PusTmRecord). Exact (tm t) (reportFor t) v s) (sym e) (exact t good s o)
 
 pub judged-spec : {M : Type 1} → statement M
-judged-spec = tie.close (tie.spec judge-requires returns)
+judged-spec = tie.close (tie.spec (λ c κs. search needs) returns)

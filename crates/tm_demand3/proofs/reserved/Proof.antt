@@ -38,27 +38,6 @@ accepted t good p before g k q l m after r e o h w =
     let b : FinishedBy (reportBy t) (startIn (q .«time_len»)) (q .held) p before r after = record { headed = l; filled = m; reserves = o; fills = h; finishes = w } in
     z .2 r after (subst (λ (y : PusTmCreatorWithReservedSourceData). FinishedBy (reportBy t) (startIn (y .«time_len»)) (y .held) p before r after) i b) .accepted
 
-new-requires : tie.Need-new-requires
-new-requires c κs = search needs
-
-enum-known-made : tie.Need-enum-known-made
-enum-known-made c = search needs
-
-enum-known-made-2 : tie.Need-enum-known-made-2
-enum-known-made-2 c = search needs
-
-fill-source-data-requires : tie.Need-fill-source-data-requires
-fill-source-data-requires c κs = search needs
-
-finish-requires : tie.Need-finish-requires
-finish-requires c κs = search needs
-
-judge-requires : tie.Need-judge-requires
-judge-requires c κs = search needs
-
-same-length : tie.Need-same-length
-same-length c = search needs
-
 returns : tie.Need-returns
 returns c =
     let a = c .before .before .before .before .before .before .before .before .before .before .args in
@@ -66,9 +45,6 @@ returns c =
     let t = reserved-accepted (a .time-len) good (packetBy (a .sp-header) (timed (a .sec-header) (a .time .now)) (a .source-data .now)) (a .buf .now) g (record { fits = k; is-slice = omega arith }) in
     let m = sym (ap reservedAnswer (c .before .made .given .1)) ∙ c .before .before .before .before .before .new .ensures .0 ∙ t .1 in
     absurd (never _ _ m)
-
-same-length-2 : tie.Need-same-length-2
-same-length-2 c = search needs
 
 returns-2 : tie.Need-returns-2
 returns-2 c =
@@ -82,13 +58,13 @@ pub reserved-spec : {M : Type 1} → statement M
 reserved-spec =
     tie.close
     (tie.spec
-    new-requires
-    enum-known-made
-    enum-known-made-2
-    fill-source-data-requires
-    finish-requires
-    judge-requires
-    same-length
+    (λ c κs. search needs)
+    (λ c. search needs)
+    (λ c. search needs)
+    (λ c κs. search needs)
+    (λ c κs. search needs)
+    (λ c κs. search needs)
+    (λ c. search needs)
     returns
-    same-length-2
+    (λ c. search needs)
     returns-2)

@@ -22,18 +22,6 @@ with-checksum : (c : PusTmCreator) (l d before after : List ℕ) (r : SizeResult
 with-checksum c l d before after r e w =
     subst (λ (b : Bool). PacketWrote (creatorOf (c .«time_len») (c .«sp_header») (c .«sec_header») b) l d before r after) e w
 
-write-requires : tie.Need-write-requires
-write-requires c κs = search needs
-
-time-len-requires : tie.Need-time-len-requires
-time-len-requires c κs = search needs
-
-judge-requires : tie.Need-judge-requires
-judge-requires c κs = search needs
-
-same-length : tie.Need-same-length
-same-length c = search needs
-
 returns : tie.Need-returns
 returns c =
     let a = c .before .before .before .before .before .before .before .before .before .before .args in
@@ -44,4 +32,4 @@ returns c =
     ∙ written-accepted (k .«time_len») good (k .«sp_header») (k .«sec_header») (a .time .now) (a .source-data .now) (a .buf .now) _ _ u (record { fits = m; is-slice = omega arith }) (with-checksum k (a .time .now) (a .source-data .now) (a .buf .now) _ _ h w) .accepted
 
 pub written-spec : {M : Type 1} → statement M
-written-spec = tie.close (tie.spec write-requires time-len-requires judge-requires same-length returns)
+written-spec = tie.close (tie.spec (λ c κs. search needs) (λ c κs. search needs) (λ c κs. search needs) (λ c. search needs) returns)

@@ -9,14 +9,8 @@ use borrow.Author.Needs.{needs}
 use Rattle.tm_header.proofs.check_time.Statement.{statement}
 use Rattle.tm_header.proofs.check_time.Tie as tie
 
-check-time-len-requires : tie.Need-check-time-len-requires
-check-time-len-requires c κs = search needs
-
 enum-told : tie.Need-enum-told
 enum-told c = search needs
-
-enum-told-2 : tie.Need-enum-told-2
-enum-told-2 c = search needs
 
 returns : tie.Need-returns
 unfolding timeCheck
@@ -32,4 +26,4 @@ returns-3 c = let e = sym (c .before .before .before .check-time-len .ensures) �
 
 pub check-time-spec : {M : Type 1} → statement M
 check-time-spec =
-    tie.close (tie.spec check-time-len-requires enum-told enum-told-2 returns returns-2 returns-3)
+    tie.close (tie.spec (λ c κs. search needs) enum-told (λ c. search needs) returns returns-2 returns-3)

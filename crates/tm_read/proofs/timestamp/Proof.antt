@@ -13,27 +13,6 @@ use borrow.Author.Needs.{needs}
 use Rattle.tm_read.proofs.timestamp.Statement.{statement}
 use Rattle.tm_read.proofs.timestamp.Tie as tie
 
-check-time-len-requires : tie.Need-check-time-len-requires
-check-time-len-requires c κs = search needs
-
-min-len-without-source-data-requires : tie.Need-min-len-without-source-data-requires
-min-len-without-source-data-requires c κs = search needs
-
-frame-after-requires : tie.Need-frame-after-requires
-frame-after-requires c κs = search needs
-
-enum-told : tie.Need-enum-told
-enum-told c = search needs
-
-slice-aggregate-result : tie.Need-slice-aggregate-result
-slice-aggregate-result c = search needs
-
-enum-told-2 : tie.Need-enum-told-2
-enum-told-2 c = search needs
-
-sec-header-part-requires : tie.Need-sec-header-part-requires
-sec-header-part-requires c κs = search needs
-
 sub-result : tie.Need-sub-result
 sub-result c =
     let k = c .before .before .before in
@@ -47,9 +26,6 @@ part-result-start c =
     let q = frame-found _ _ _ _ _ _ _ (k .frame-after .ensures) (k .before .before .check-time-len .ensures) (k .before .min-len-without-source-data .ensures) ∙ ap sizeAnswer (c .before .enum-told2 .given .1) in
     let h = time-room _ _ _ _ (frame-given _ _ _ _ _ q) in
     omega (arith, h, ap length (c .sec-header-part .ensures))
-
-part-result-end : tie.Need-part-result-end
-part-result-end c = search needs
 
 returns : tie.Need-returns
 returns c =
@@ -71,15 +47,15 @@ pub timestamp-spec : {M : Type 1} → statement M
 timestamp-spec =
     tie.close
     (tie.spec
-    check-time-len-requires
-    min-len-without-source-data-requires
-    frame-after-requires
-    enum-told
-    slice-aggregate-result
-    enum-told-2
-    sec-header-part-requires
+    (λ c κs. search needs)
+    (λ c κs. search needs)
+    (λ c κs. search needs)
+    (λ c. search needs)
+    (λ c. search needs)
+    (λ c. search needs)
+    (λ c κs. search needs)
     sub-result
     part-result-start
-    part-result-end
+    (λ c. search needs)
     returns
     returns-2)

@@ -6,18 +6,6 @@ use borrow.Author.Needs.{needs}
 use Rattle.tm_reserved.proofs.reservation.Statement.{statement}
 use Rattle.tm_reserved.proofs.reservation.Tie as tie
 
-enum-known-reserved : tie.Need-enum-known-reserved
-enum-known-reserved c = search needs
-
-enum-known-reserved-2 : tie.Need-enum-known-reserved-2
-enum-known-reserved-2 c = search needs
-
-add-t8 : tie.Need-add-t8
-add-t8 c = search needs
-
-add-t9 : tie.Need-add-t9
-add-t9 c = search needs
-
 returns : tie.Need-returns
 returns c = sym (refuses-then _ _ _ (ap sizeAnswer (c .before .reserved .given .1)))
 
@@ -26,4 +14,4 @@ returns-2 c = sym (gives-then _ _ _ (ap sizeAnswer (c .before .reserved2 .given 
 
 pub reservation-spec : {M : Type 1} → statement M
 reservation-spec =
-    tie.close (tie.spec enum-known-reserved enum-known-reserved-2 add-t8 add-t9 returns returns-2)
+    tie.close (tie.spec (λ c. search needs) (λ c. search needs) (λ c. search needs) (λ c. search needs) returns returns-2)

@@ -8,30 +8,6 @@ use borrow.Author.Needs.{needs}
 use Rattle.tm_strict.proofs.judge.Statement.{statement}
 use Rattle.tm_strict.proofs.judge.Tie as tie
 
-new-requires : tie.Need-new-requires
-new-requires c κs = search needs
-
-enum-known-read : tie.Need-enum-known-read
-enum-known-read c = search needs
-
-enum-known-read-2 : tie.Need-enum-known-read-2
-enum-known-read-2 c = search needs
-
-raw-value-requires : tie.Need-raw-value-requires
-raw-value-requires c κs = search needs
-
-octet-at-requires : tie.Need-octet-at-requires
-octet-at-requires c κs = search needs
-
-pus-rule-requires : tie.Need-pus-rule-requires
-pus-rule-requires c κs = search needs
-
-enum-known-c : tie.Need-enum-known-c
-enum-known-c c = search needs
-
-enum-told : tie.Need-enum-told
-enum-told c = search needs
-
 returns : tie.Need-returns
 returns c = let e = sym (c .before .before .before .new .ensures) ∙ ap recordAnswer (c .before .read .given .1) in sym (verdict-refused _ _ _ e)
 
@@ -53,14 +29,14 @@ pub judge-spec : {M : Type 1} → statement M
 judge-spec =
     tie.close
     (tie.spec
-    new-requires
-    enum-known-read
-    enum-known-read-2
-    raw-value-requires
-    octet-at-requires
-    pus-rule-requires
-    enum-known-c
-    enum-told
+    (λ c κs. search needs)
+    (λ c. search needs)
+    (λ c. search needs)
+    (λ c κs. search needs)
+    (λ c κs. search needs)
+    (λ c κs. search needs)
+    (λ c. search needs)
+    (λ c. search needs)
     returns
     returns-2
     returns-3)

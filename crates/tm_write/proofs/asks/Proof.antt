@@ -3,18 +3,9 @@ use borrow.Author.Needs.{needs}
 use Rattle.tm_write.proofs.asks.Statement.{statement}
 use Rattle.tm_write.proofs.asks.Tie as tie
 
-check-time-requires : tie.Need-check-time-requires
-check-time-requires c κs = search needs
-
-check-fields-requires : tie.Need-check-fields-requires
-check-fields-requires c κs = search needs
-
-check-version-requires : tie.Need-check-version-requires
-check-version-requires c κs = search needs
-
 returns : tie.Need-returns
 returns c = λ i. record { first = c .before .before .check-time .ensures i; fields = c .before .check-fields .ensures i; version = c .check-version .ensures i }
 
 pub asks-spec : {M : Type 1} → statement M
 asks-spec =
-    tie.close (tie.spec check-time-requires check-fields-requires check-version-requires returns)
+    tie.close (tie.spec (λ c κs. search needs) (λ c κs. search needs) (λ c κs. search needs) returns)

@@ -7,21 +7,6 @@ use Rattle.tracker.proofs.all_come.Tie as tie
 returns : tie.Need-returns
 returns c = simp (eq-eqb _ _ (c .if1 .taken))
 
-counted-requires : tie.Need-counted-requires
-counted-requires c κs = search needs
-
-counted-requires-2 : tie.Need-counted-requires-2
-counted-requires-2 c κs = search needs
-
-add-come : tie.Need-add-come
-add-come c = search needs
-
-counted-requires-3 : tie.Need-counted-requires-3
-counted-requires-3 c κs = search needs
-
-add-come-2 : tie.Need-add-come-2
-add-come-2 c = search needs
-
 returns-2 : tie.Need-returns-2
 returns-2 c = simp (ne-eqb _ _ (c .before .before .before .if1 .left), c .before .before .counted .ensures .0, c .before .counted2 .ensures .0, c .counted3 .ensures .0)
 
@@ -30,9 +15,9 @@ all-come-spec =
     tie.close
     (tie.spec
     returns
-    counted-requires
-    counted-requires-2
-    add-come
-    counted-requires-3
-    add-come-2
+    (λ c κs. search needs)
+    (λ c κs. search needs)
+    (λ c. search needs)
+    (λ c κs. search needs)
+    (λ c. search needs)
     returns-2)

@@ -8,9 +8,6 @@ use borrow.Author.Needs.{needs}
 use Rattle.tracker.proofs.counted.Statement.{statement}
 use Rattle.tracker.proofs.counted.Tie as tie
 
-div-if2 : tie.Need-div-if2
-div-if2 c = search needs
-
 returns : tie.Need-returns
 returns c =
     let a = c .before .before .args in
@@ -21,8 +18,5 @@ returns-2 c =
     let a = c .before .before .args in
     let h : a .asked / a .weight % 2 ≢ 1 = λ e. absurd (omega (arith, c .if2 .left, e)) in (simp (c .before .if1 .taken, ne-eqb _ _ h), omega arith)
 
-returns-3 : tie.Need-returns-3
-returns-3 c = search needs
-
 pub counted-spec : {M : Type 1} → statement M
-counted-spec = tie.close (tie.spec div-if2 returns returns-2 returns-3)
+counted-spec = tie.close (tie.spec (λ c. search needs) returns returns-2 (λ c. search needs))

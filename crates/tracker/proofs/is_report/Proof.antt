@@ -13,11 +13,8 @@ returns-2 c = simp (eq-eqb _ _ (c .before .if1 .left), lt-leb _ _ (c .if2 .taken
 returns-3 : tie.Need-returns-3
 returns-3 c = simp (eq-eqb _ _ (c .before .before .if1 .left), le-leb _ _ (c .before .if2 .left), lt-leb _ _ (c .if3 .taken))
 
-report-length-requires : tie.Need-report-length-requires
-report-length-requires c κs = search needs
-
 returns-4 : tie.Need-returns-4
 returns-4 c = simp (eq-eqb _ _ (c .before .before .before .if1 .left), le-leb _ _ (c .before .before .if2 .left), le-leb _ _ (c .before .if3 .left), c .report-length .ensures)
 
 pub is-report-spec : {M : Type 1} → statement M
-is-report-spec = tie.close (tie.spec returns returns-2 returns-3 report-length-requires returns-4)
+is-report-spec = tie.close (tie.spec returns returns-2 returns-3 (λ c κs. search needs) returns-4)

@@ -7,13 +7,10 @@ use borrow.Author.Needs.{needs}
 use Rattle.tracker_history.proofs.asked.Statement.{statement}
 use Rattle.tracker_history.proofs.asked.Tie as tie
 
-is-open-requires : tie.Need-is-open-requires
-is-open-requires c κs = search needs
-
 returns : tie.Need-returns
 returns c =
     let id = c .before .args .id in
     let e = c .is-open .ensures in λ h q. (e ∙ ap (λ t. isOpen t id) q ∙ open-as-history h id, asked-exactly _ id _ h e q)
 
 pub asked-spec : {M : Type 1} → statement M
-asked-spec = tie.close (tie.spec is-open-requires returns)
+asked-spec = tie.close (tie.spec (λ c κs. search needs) returns)

@@ -8,11 +8,8 @@ use borrow.Author.Needs.{needs}
 use Rattle.tracker_history.proofs.counted.Statement.{statement}
 use Rattle.tracker_history.proofs.counted.Tie as tie
 
-open-count-requires : tie.Need-open-count-requires
-open-count-requires c κs = search needs
-
 returns : tie.Need-returns
 returns c = λ h q. (c .open-count .ensures ∙ ap (λ t. length (openOf t)) q ∙ ap length (ids-held h), open-few h)
 
 pub counted-spec : {M : Type 1} → statement M
-counted-spec = tie.close (tie.spec open-count-requires returns)
+counted-spec = tie.close (tie.spec (λ c κs. search needs) returns)

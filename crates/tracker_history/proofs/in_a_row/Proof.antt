@@ -6,21 +6,6 @@ use borrow.Author.Needs.{needs}
 use Rattle.tracker_history.proofs.in_a_row.Statement.{statement}
 use Rattle.tracker_history.proofs.in_a_row.Tie as tie
 
-new-requires : tie.Need-new-requires
-new-requires c κs = search needs
-
-send-requires : tie.Need-send-requires
-send-requires c κs = search needs
-
-report-requires : tie.Need-report-requires
-report-requires c κs = search needs
-
-send-requires-2 : tie.Need-send-requires-2
-send-requires-2 c κs = search needs
-
-is-open-requires : tie.Need-is-open-requires
-is-open-requires c κs = search needs
-
 returns : tie.Need-returns
 unfolding run
 returns c =
@@ -39,4 +24,4 @@ returns c =
 pub in-a-row-spec : {M : Type 1} → statement M
 in-a-row-spec =
     tie.close
-    (tie.spec new-requires send-requires report-requires send-requires-2 is-open-requires returns)
+    (tie.spec (λ c κs. search needs) (λ c κs. search needs) (λ c κs. search needs) (λ c κs. search needs) (λ c κs. search needs) returns)

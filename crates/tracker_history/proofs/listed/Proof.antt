@@ -6,13 +6,10 @@ use borrow.Author.Needs.{needs}
 use Rattle.tracker_history.proofs.listed.Statement.{statement}
 use Rattle.tracker_history.proofs.listed.Tie as tie
 
-open-at-requires : tie.Need-open-at-requires
-open-at-requires c κs = search needs
-
 returns : tie.Need-returns
 returns c =
     let i = c .before .args .i in
     λ h q. c .open-at .ensures ∙ ap (λ t. requestAt (openOf t) i) q ∙ ap (λ l. requestAt l i) (ids-held h)
 
 pub listed-spec : {M : Type 1} → statement M
-listed-spec = tie.close (tie.spec open-at-requires returns)
+listed-spec = tie.close (tie.spec (λ c κs. search needs) returns)

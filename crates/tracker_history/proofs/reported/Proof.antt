@@ -4,11 +4,8 @@ use borrow.Author.Needs.{needs}
 use Rattle.tracker_history.proofs.reported.Statement.{statement}
 use Rattle.tracker_history.proofs.reported.Tie as tie
 
-report-requires : tie.Need-report-requires
-report-requires c κs = search needs
-
 returns : tie.Need-returns
 returns c = report-follows _ _ _ _ (c .report .ensures)
 
 pub reported-spec : {M : Type 1} → statement M
-reported-spec = tie.close (tie.spec report-requires returns)
+reported-spec = tie.close (tie.spec (λ c κs. search needs) returns)

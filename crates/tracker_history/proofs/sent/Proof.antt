@@ -4,11 +4,8 @@ use borrow.Author.Needs.{needs}
 use Rattle.tracker_history.proofs.sent.Statement.{statement}
 use Rattle.tracker_history.proofs.sent.Tie as tie
 
-send-requires : tie.Need-send-requires
-send-requires c κs = search needs
-
 returns : tie.Need-returns
 returns c = sent-follows _ _ _ (c .send .ensures)
 
 pub sent-spec : {M : Type 1} → statement M
-sent-spec = tie.close (tie.spec send-requires returns)
+sent-spec = tie.close (tie.spec (λ c κs. search needs) returns)

@@ -5,11 +5,8 @@ use Rattle.crc.proofs.Parts.{holding}
 use Rattle.crc.proofs.Digest.update.Statement.{statement}
 use Rattle.crc.proofs.Digest.update.Tie as tie
 
-table-from-requires : tie.Need-table-from-requires
-table-from-requires c κs = search needs
-
 returns : tie.Need-returns
 returns c = ap holding (c .table-from .ensures)
 
 pub update-spec : {M : Type 1} → statement M
-update-spec = tie.close (tie.spec table-from-requires returns)
+update-spec = tie.close (tie.spec (λ c κs. search needs) returns)

@@ -6,18 +6,6 @@ use Rattle.crc_fold.proofs.Rows.{in-turn}
 use Rattle.crc_fold.proofs.folded.closed.Statement.{statement}
 use Rattle.crc_fold.proofs.folded.closed.Tie as tie
 
-word-in-requires : tie.Need-word-in-requires
-word-in-requires c κs = search needs
-
-word-in-requires-2 : tie.Need-word-in-requires-2
-word-in-requires-2 c κs = search needs
-
-word-in-requires-3 : tie.Need-word-in-requires-3
-word-in-requires-3 c κs = search needs
-
-word-in-requires-4 : tie.Need-word-in-requires-4
-word-in-requires-4 c κs = search needs
-
 returns : tie.Need-returns
 unfolding octs4
 returns c =
@@ -28,4 +16,4 @@ returns c =
     (c .word-in4 .ensures)
 
 pub closed-spec : {M : Type 1} → statement M
-closed-spec = tie.close (tie.spec word-in-requires word-in-requires-2 word-in-requires-3 word-in-requires-4 returns)
+closed-spec = tie.close (tie.spec (λ c κs. search needs) (λ c κs. search needs) (λ c κs. search needs) (λ c κs. search needs) returns)

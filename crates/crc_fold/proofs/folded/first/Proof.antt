@@ -10,12 +10,6 @@ use Rattle.crc_fold.proofs.Rows.{in-turn}
 use Rattle.crc_fold.proofs.folded.first.Statement.{statement}
 use Rattle.crc_fold.proofs.folded.first.Tie as tie
 
-low-four-at-requires : tie.Need-low-four-at-requires
-low-four-at-requires c κs = search needs
-
-swapped-requires : tie.Need-swapped-requires
-swapped-requires c κs = search needs
-
 returns : tie.Need-returns
 unfolding _⊕_ lows4
 returns c =
@@ -31,4 +25,4 @@ returns c =
     ∙ ap (crcFrom r) (c .before .before .low-four-at .ensures)
 
 pub first-spec : {M : Type 1} → statement M
-first-spec = tie.close (tie.spec low-four-at-requires swapped-requires returns)
+first-spec = tie.close (tie.spec (λ c κs. search needs) (λ c κs. search needs) returns)

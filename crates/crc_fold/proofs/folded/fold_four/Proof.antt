@@ -7,18 +7,6 @@ use Rattle.crc_fold.proofs.Rows.{in-turn}
 use Rattle.crc_fold.proofs.folded.fold_four.Statement.{statement}
 use Rattle.crc_fold.proofs.folded.fold_four.Tie as tie
 
-fold-requires : tie.Need-fold-requires
-fold-requires c κs = search needs
-
-fold-requires-2 : tie.Need-fold-requires-2
-fold-requires-2 c κs = search needs
-
-fold-requires-3 : tie.Need-fold-requires-3
-fold-requires-3 c κs = search needs
-
-fold-requires-4 : tie.Need-fold-requires-4
-fold-requires-4 c κs = search needs
-
 returns : tie.Need-returns
 unfolding octs4
 returns c =
@@ -30,4 +18,4 @@ returns c =
     (c .fold4 .ensures)
 
 pub fold-four-spec : {M : Type 1} → statement M
-fold-four-spec = tie.close (tie.spec fold-requires fold-requires-2 fold-requires-3 fold-requires-4 returns)
+fold-four-spec = tie.close (tie.spec (λ c κs. search needs) (λ c κs. search needs) (λ c κs. search needs) (λ c κs. search needs) returns)

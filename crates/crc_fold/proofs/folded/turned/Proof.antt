@@ -5,18 +5,6 @@ use Rattle.crc_fold.proofs.Rows.{four-alike}
 use Rattle.crc_fold.proofs.folded.turned.Statement.{statement}
 use Rattle.crc_fold.proofs.folded.turned.Tie as tie
 
-swapped-requires : tie.Need-swapped-requires
-swapped-requires c κs = search needs
-
-swapped-requires-2 : tie.Need-swapped-requires-2
-swapped-requires-2 c κs = search needs
-
-swapped-requires-3 : tie.Need-swapped-requires-3
-swapped-requires-3 c κs = search needs
-
-swapped-requires-4 : tie.Need-swapped-requires-4
-swapped-requires-4 c κs = search needs
-
 returns : tie.Need-returns
 unfolding octs4 lows4
 returns c =
@@ -25,4 +13,4 @@ returns c =
     (c .swapped4 .ensures .0)
 
 pub turned-spec : {M : Type 1} → statement M
-turned-spec = tie.close (tie.spec swapped-requires swapped-requires-2 swapped-requires-3 swapped-requires-4 returns)
+turned-spec = tie.close (tie.spec (λ c κs. search needs) (λ c κs. search needs) (λ c κs. search needs) (λ c κs. search needs) returns)

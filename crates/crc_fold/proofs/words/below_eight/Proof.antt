@@ -6,28 +6,13 @@ use Rattle.crc_fold.proofs.Rows.{start, along}
 use Rattle.crc_fold.proofs.words.below_eight.Statement.{statement}
 use Rattle.crc_fold.proofs.words.below_eight.Tie as tie
 
-sub-if1 : tie.Need-sub-if1
-sub-if1 c = search needs
-
-four-in-requires : tie.Need-four-in-requires
-four-in-requires c κs = search needs
-
-add-below-four : tie.Need-add-below-four
-add-below-four c = search needs
-
-below-four-requires : tie.Need-below-four-requires
-below-four-requires c κs = search needs
-
 returns : tie.Need-returns
 returns c =
     let a = c .before .before .before .before .args in
     c .below-four .ensures ∙ along 4 (start (a .s .now) (a .i) (a .r) (omega arith)) (omega arith) (c .before .four-in .ensures) .will
 
-below-four-requires-2 : tie.Need-below-four-requires-2
-below-four-requires-2 c κs = search needs
-
 returns-2 : tie.Need-returns-2
 returns-2 c = omega arith
 
 pub below-eight-spec : {M : Type 1} → statement M
-below-eight-spec = tie.close (tie.spec sub-if1 four-in-requires add-below-four below-four-requires returns below-four-requires-2 returns-2)
+below-eight-spec = tie.close (tie.spec (λ c. search needs) (λ c κs. search needs) (λ c. search needs) (λ c κs. search needs) returns (λ c κs. search needs) returns-2)

@@ -8,12 +8,6 @@ use Rattle.crc_register.proofs.Linear.{StillMakes, turn, end}
 use Rattle.crc_fold.proofs.words.below_two.Statement.{statement}
 use Rattle.crc_fold.proofs.words.below_two.Tie as tie
 
-shared-slice-read-no-table-octet : tie.Need-shared-slice-read-no-table-octet
-shared-slice-read-no-table-octet c = search needs
-
-no-table-octet-requires : tie.Need-no-table-octet-requires
-no-table-octet-requires c κs = search needs
-
 returns : tie.Need-returns
 returns c =
     let a = c .before .before .before .before .args in
@@ -27,4 +21,4 @@ returns-2 c =
     end k (omega arith)
 
 pub below-two-spec : {M : Type 1} → statement M
-below-two-spec = tie.close (tie.spec shared-slice-read-no-table-octet no-table-octet-requires returns returns-2)
+below-two-spec = tie.close (tie.spec (λ c. search needs) (λ c κs. search needs) returns returns-2)

@@ -6,12 +6,9 @@ use Rattle.crc_fold.proofs.Word.{shifts8, by-shifts}
 use Rattle.crc_fold.proofs.words.reduced.Statement.{statement}
 use Rattle.crc_fold.proofs.words.reduced.Tie as tie
 
-cast-result : tie.Need-cast-result
-cast-result c = search needs
-
 returns : tie.Need-returns
 unfolding _⊕_ shifts8
 returns c = by-shifts (c .args .w) (omega arith)
 
 pub reduced-spec : {M : Type 1} → statement M
-reduced-spec = tie.close (tie.spec cast-result returns)
+reduced-spec = tie.close (tie.spec (λ c. search needs) returns)

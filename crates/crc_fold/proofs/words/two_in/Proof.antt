@@ -7,21 +7,6 @@ use Rattle.crc_fold.proofs.Word.{met2, gets, octets-at}
 use Rattle.crc_fold.proofs.words.two_in.Statement.{statement}
 use Rattle.crc_fold.proofs.words.two_in.Tie as tie
 
-shared-slice-read-join : tie.Need-shared-slice-read-join
-shared-slice-read-join c = search needs
-
-add-join : tie.Need-add-join
-add-join c = search needs
-
-shared-slice-read-join-2 : tie.Need-shared-slice-read-join-2
-shared-slice-read-join-2 c = search needs
-
-join-requires : tie.Need-join-requires
-join-requires c κs = search needs
-
-reduced-requires : tie.Need-reduced-requires
-reduced-requires c κs = search needs
-
 returns : tie.Need-returns
 unfolding _⊕_ gets
 returns c =
@@ -31,4 +16,4 @@ returns c =
     ∙ ap (crcFrom (a .r)) (octets-at 1 (a .s .now) (a .i) (omega arith))
 
 pub two-in-spec : {M : Type 1} → statement M
-two-in-spec = tie.close (tie.spec shared-slice-read-join add-join shared-slice-read-join-2 join-requires reduced-requires returns)
+two-in-spec = tie.close (tie.spec (λ c. search needs) (λ c. search needs) (λ c. search needs) (λ c κs. search needs) (λ c κs. search needs) returns)

@@ -10,12 +10,6 @@ use borrow.Author.Needs.{needs}
 use Rattle.ecss.proofs.PusVersion.check.Statement.{statement}
 use Rattle.ecss.proofs.PusVersion.check.Tie as tie
 
-raw-value-requires : tie.Need-raw-value-requires
-raw-value-requires c κs = search needs
-
-raw-value-requires-2 : tie.Need-raw-value-requires-2
-raw-value-requires-2 c κs = search needs
-
 returns : tie.Need-returns
 returns c = let e = c .before .before .raw-value .ensures in let o = c .before .raw-value2 .ensures in sym (refuse-yes _ _ _ (ap not (ne-eqb _ _ (c .if1 .taken)))) ∙ (λ i. refuseIf (not (eqb (e i) (o i))) (refusal 3 (e i ∷ [])) (gives tt))
 
@@ -24,4 +18,4 @@ returns-2 c = let e = c .before .before .raw-value .ensures in let o = c .before
 
 pub check-spec : {M : Type 1} → statement M
 check-spec =
-    tie.close (tie.spec raw-value-requires raw-value-requires-2 returns returns-2)
+    tie.close (tie.spec (λ c κs. search needs) (λ c κs. search needs) returns returns-2)

@@ -9,32 +9,8 @@ use borrow.Author.Needs.{needs}
 use Rattle.ecss.proofs.frame.checked.Statement.{statement}
 use Rattle.ecss.proofs.frame.checked.Tie as tie
 
-frame-of-requires : tie.Need-frame-of-requires
-frame-of-requires c κs = search needs
-
-enum-known-f : tie.Need-enum-known-f
-enum-known-f c = search needs
-
-enum-known-f-2 : tie.Need-enum-known-f-2
-enum-known-f-2 c = search needs
-
 sub-word-at : tie.Need-sub-word-at
 sub-word-at c = let e = sym (c .before .before .before .frame-of .ensures) ∙ ap sizeAnswer (c .before .f2 .given .1) in let q = frame-total _ _ _ _ e in omega arith
-
-word-at-requires : tie.Need-word-at-requires
-word-at-requires c κs = search needs
-
-front-requires : tie.Need-front-requires
-front-requires c κs = search needs
-
-verify-crc16-ccitt-false-from-raw-to-pus-error-requires : tie.Need-verify-crc16-ccitt-false-from-raw-to-pus-error-requires
-verify-crc16-ccitt-false-from-raw-to-pus-error-requires c κs = search needs
-
-enum-known-v : tie.Need-enum-known-v
-enum-known-v c = search needs
-
-enum-told : tie.Need-enum-told
-enum-told c = search needs
 
 returns : tie.Need-returns
 unfolding checkedOf
@@ -52,15 +28,15 @@ pub checked-spec : {M : Type 1} → statement M
 checked-spec =
     tie.close
     (tie.spec
-    frame-of-requires
-    enum-known-f
-    enum-known-f-2
+    (λ c κs. search needs)
+    (λ c. search needs)
+    (λ c. search needs)
     sub-word-at
-    word-at-requires
-    front-requires
-    verify-crc16-ccitt-false-from-raw-to-pus-error-requires
-    enum-known-v
-    enum-told
+    (λ c κs. search needs)
+    (λ c κs. search needs)
+    (λ c κs. search needs)
+    (λ c. search needs)
+    (λ c. search needs)
     returns
     returns-2
     returns-3)

@@ -7,15 +7,6 @@ use borrow.Author.Needs.{needs}
 use Rattle.ecss.proofs.frame.checked_after.Statement.{statement}
 use Rattle.ecss.proofs.frame.checked_after.Tie as tie
 
-enum-known-first : tie.Need-enum-known-first
-enum-known-first c = search needs
-
-enum-told : tie.Need-enum-told
-enum-told c = search needs
-
-checked-requires : tie.Need-checked-requires
-checked-requires c κs = search needs
-
 returns : tie.Need-returns
 unfolding checkedAfter
 returns c = sym (refuses-then _ _ _ (ap checkAnswer (c .before .first .given .1)))
@@ -26,4 +17,4 @@ returns-2 c = c .checked .ensures ∙ sym (gives-then _ _ _ (ap checkAnswer (c .
 
 pub checked-after-spec : {M : Type 1} → statement M
 checked-after-spec =
-    tie.close (tie.spec enum-known-first enum-told checked-requires returns returns-2)
+    tie.close (tie.spec (λ c. search needs) (λ c. search needs) (λ c κs. search needs) returns returns-2)

@@ -14,18 +14,12 @@ use Rattle.ecss.proofs.frame.crc_taken.Tie as tie
 returns : tie.Need-returns
 returns c = let a = c .before .before .args in sym (ap (λ (b : Bool). crcTaken b (a .s .now) (a .total)) (not-true (a .has-checksum) (c .if1 .taken)))
 
-word-at-requires : tie.Need-word-at-requires
-word-at-requires c κs = search needs
-
 returns-2 : tie.Need-returns-2
 returns-2 c =
     let a = c .before .before .before .before .args in
     let e : 0 ≡ a .total - 2 = omega (arith, c .before .if2 .taken) in
     ap Some (c .word-at .ensures ∙ ap (word (a .s .now)) e)
     ∙ sym (ap (λ (b : Bool). crcTaken b (a .s .now) (a .total)) (not-false (a .has-checksum) (c .before .before .if1 .left)))
-
-word-at-requires-2 : tie.Need-word-at-requires-2
-word-at-requires-2 c κs = search needs
 
 returns-3 : tie.Need-returns-3
 returns-3 c =
@@ -34,4 +28,4 @@ returns-3 c =
 
 pub crc-taken-spec : {M : Type 1} → statement M
 crc-taken-spec =
-    tie.close (tie.spec returns word-at-requires returns-2 word-at-requires-2 returns-3)
+    tie.close (tie.spec returns (λ c κs. search needs) returns-2 (λ c κs. search needs) returns-3)

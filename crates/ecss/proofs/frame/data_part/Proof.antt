@@ -7,21 +7,6 @@ use borrow.Author.Needs.{needs}
 use Rattle.ecss.proofs.frame.data_part.Statement.{statement}
 use Rattle.ecss.proofs.frame.data_part.Tie as tie
 
-frame-after-requires : tie.Need-frame-after-requires
-frame-after-requires c κs = search needs
-
-enum-told : tie.Need-enum-told
-enum-told c = search needs
-
-slice-aggregate-result : tie.Need-slice-aggregate-result
-slice-aggregate-result c = search needs
-
-enum-known-f : tie.Need-enum-known-f
-enum-known-f c = search needs
-
-trailer-len-requires : tie.Need-trailer-len-requires
-trailer-len-requires c κs = search needs
-
 sub-end : tie.Need-sub-end
 sub-end c = let e = sym (c .before .before .before .before .frame-after .ensures) ∙ ap sizeAnswer (c .before .before .f .given .1) in let q = frame-given _ _ _ _ _ e in omega arith
 
@@ -44,11 +29,11 @@ pub data-part-spec : {M : Type 1} → statement M
 data-part-spec =
     tie.close
     (tie.spec
-    frame-after-requires
-    enum-told
-    slice-aggregate-result
-    enum-known-f
-    trailer-len-requires
+    (λ c κs. search needs)
+    (λ c. search needs)
+    (λ c. search needs)
+    (λ c. search needs)
+    (λ c κs. search needs)
     sub-end
     sub-result
     part-result-start

@@ -7,15 +7,6 @@ use borrow.Author.Needs.{needs}
 use Rattle.ecss.proofs.frame.frame_after.Statement.{statement}
 use Rattle.ecss.proofs.frame.frame_after.Tie as tie
 
-enum-known-first : tie.Need-enum-known-first
-enum-known-first c = search needs
-
-enum-told : tie.Need-enum-told
-enum-told c = search needs
-
-frame-of-requires : tie.Need-frame-of-requires
-frame-of-requires c κs = search needs
-
 returns : tie.Need-returns
 unfolding frameAfter
 returns c = sym (refuses-then _ _ _ (ap checkAnswer (c .before .first .given .1)))
@@ -26,4 +17,4 @@ returns-2 c = c .frame-of .ensures ∙ sym (gives-then _ _ _ (ap checkAnswer (c 
 
 pub frame-after-spec : {M : Type 1} → statement M
 frame-after-spec =
-    tie.close (tie.spec enum-known-first enum-told frame-of-requires returns returns-2)
+    tie.close (tie.spec (λ c. search needs) (λ c. search needs) (λ c κs. search needs) returns returns-2)

@@ -8,44 +8,17 @@ use borrow.Author.Needs.{needs}
 use Rattle.ecss.proofs.frame.frame_of.Statement.{statement}
 use Rattle.ecss.proofs.frame.frame_of.Tie as tie
 
-too-small-requires : tie.Need-too-small-requires
-too-small-requires c κs = search needs
-
 returns : tie.Need-returns
 unfolding frameOf
 returns c = ap sizeAnswer (c .too-small .ensures) ∙ sym (refuse-yes _ _ _ (lt-ltb _ _ (c .before .if1 .taken)))
-
-word-at-requires : tie.Need-word-at-requires
-word-at-requires c κs = search needs
-
-cast-total : tie.Need-cast-total
-cast-total c = search needs
-
-add-total : tie.Need-add-total
-add-total c = search needs
-
-too-small-requires-2 : tie.Need-too-small-requires-2
-too-small-requires-2 c κs = search needs
 
 returns-2 : tie.Need-returns-2
 unfolding frameOf refuseIf
 returns-2 c = let w = c .before .before .word-at .ensures in rw (c .too-small2 .ensures, w) (simp (le-ltb _ _ (c .before .before .before .if1 .left), lt-ltb _ _ (rw w at (c .before .if2 .taken))))
 
-too-small-requires-3 : tie.Need-too-small-requires-3
-too-small-requires-3 c κs = search needs
-
 returns-3 : tie.Need-returns-3
 unfolding frameOf refuseIf
 returns-3 c = let w = c .before .before .before .word-at .ensures in rw (c .too-small3 .ensures, w) (simp (le-ltb _ _ (c .before .before .before .before .if1 .left), le-ltb _ _ (rw w at (c .before .before .if2 .left)), lt-ltb _ _ (rw w at (c .before .if3 .taken))))
-
-add-if5 : tie.Need-add-if5
-add-if5 c = search needs
-
-sub-too-small : tie.Need-sub-too-small
-sub-too-small c = search needs
-
-too-small-requires-4 : tie.Need-too-small-requires-4
-too-small-requires-4 c κs = search needs
 
 returns-4 : tie.Need-returns-4
 unfolding frameOf refuseIf
@@ -63,18 +36,18 @@ pub frame-of-spec : {M : Type 1} → statement M
 frame-of-spec =
     tie.close
     (tie.spec
-    too-small-requires
+    (λ c κs. search needs)
     returns
-    word-at-requires
-    cast-total
-    add-total
-    too-small-requires-2
+    (λ c κs. search needs)
+    (λ c. search needs)
+    (λ c. search needs)
+    (λ c κs. search needs)
     returns-2
-    too-small-requires-3
+    (λ c κs. search needs)
     returns-3
-    add-if5
-    sub-too-small
-    too-small-requires-4
+    (λ c. search needs)
+    (λ c. search needs)
+    (λ c κs. search needs)
     returns-4
     returns-5
     returns-6)

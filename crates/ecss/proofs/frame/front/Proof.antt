@@ -12,8 +12,5 @@ returns c = sym (take-all (c .before .args .n) (c .before .args .s .now) (omega 
 slice-aggregate-result : tie.Need-slice-aggregate-result
 slice-aggregate-result c = sym (length-take-le (c .before .before .args .n) (c .before .before .args .s .now) (omega arith))
 
-returns-2 : tie.Need-returns-2
-returns-2 c = search needs
-
 pub front-spec : {M : Type 1} → statement M
-front-spec = tie.close (tie.spec returns slice-aggregate-result returns-2)
+front-spec = tie.close (tie.spec returns slice-aggregate-result (λ c. search needs))

@@ -9,23 +9,8 @@ use borrow.Author.Needs.{needs}
 use Rattle.ecss.proofs.frame.part_at.Statement.{statement}
 use Rattle.ecss.proofs.frame.part_at.Tie as tie
 
-slice-aggregate-result : tie.Need-slice-aggregate-result
-slice-aggregate-result c = search needs
-
 returns : tie.Need-returns
 returns c = let a = c .before .before .before .args in sym (none-left (a .at) (a .n) (a .s .now) (c .before .if1 .taken))
-
-sub-front : tie.Need-sub-front
-sub-front c = search needs
-
-part-front-start : tie.Need-part-front-start
-part-front-start c = search needs
-
-part-front-end : tie.Need-part-front-end
-part-front-end c = search needs
-
-front-requires : tie.Need-front-requires
-front-requires c κs = search needs
 
 returns-2 : tie.Need-returns-2
 returns-2 c = let a = c .before .before .before .before .args in
@@ -34,4 +19,4 @@ returns-2 c = let a = c .before .before .before .before .args in
 pub part-at-spec : {M : Type 1} → statement M
 part-at-spec =
     tie.close
-    (tie.spec slice-aggregate-result returns sub-front part-front-start part-front-end front-requires returns-2)
+    (tie.spec (λ c. search needs) returns (λ c. search needs) (λ c. search needs) (λ c. search needs) (λ c κs. search needs) returns-2)

@@ -5,21 +5,6 @@ use borrow.Author.Needs.{needs}
 use Rattle.ecss.proofs.frame.raw_part.Statement.{statement}
 use Rattle.ecss.proofs.frame.raw_part.Tie as tie
 
-frame-after-requires : tie.Need-frame-after-requires
-frame-after-requires c κs = search needs
-
-enum-told : tie.Need-enum-told
-enum-told c = search needs
-
-slice-aggregate-result : tie.Need-slice-aggregate-result
-slice-aggregate-result c = search needs
-
-enum-known-f : tie.Need-enum-known-f
-enum-known-f c = search needs
-
-front-requires : tie.Need-front-requires
-front-requires c κs = search needs
-
 returns : tie.Need-returns
 returns c = let e = sym (c .before .before .before .frame-after .ensures) ∙ ap sizeAnswer (c .before .enum-told .given .1) in simp e
 
@@ -30,10 +15,10 @@ pub raw-part-spec : {M : Type 1} → statement M
 raw-part-spec =
     tie.close
     (tie.spec
-    frame-after-requires
-    enum-told
-    slice-aggregate-result
-    enum-known-f
-    front-requires
+    (λ c κs. search needs)
+    (λ c. search needs)
+    (λ c. search needs)
+    (λ c. search needs)
+    (λ c κs. search needs)
     returns
     returns-2)

@@ -6,15 +6,9 @@ use borrow.Author.Needs.{needs}
 use Rattle.ecss_write.proofs.packet.as_type.Statement.{statement}
 use Rattle.ecss_write.proofs.packet.as_type.Tie as tie
 
-set-packet-type-requires : tie.Need-set-packet-type-requires
-set-packet-type-requires c κs = search needs
-
-set-sec-header-flag-requires : tie.Need-set-sec-header-flag-requires
-set-sec-header-flag-requires c κs = search needs
-
 returns : tie.Need-returns
 returns c = c .set-sec-header-flag .ensures ∙ ap (λ g. withId g (idFrom (g .«packet_id» .«packet_type») true (g .«packet_id» .apid))) (c .before .set-packet-type .ensures)
 
 pub as-type-spec : {M : Type 1} → statement M
 as-type-spec =
-    tie.close (tie.spec set-packet-type-requires set-sec-header-flag-requires returns)
+    tie.close (tie.spec (λ c κs. search needs) (λ c κs. search needs) returns)

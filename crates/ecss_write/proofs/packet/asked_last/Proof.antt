@@ -6,18 +6,6 @@ use borrow.Author.Needs.{needs}
 use Rattle.ecss_write.proofs.packet.asked_last.Statement.{statement}
 use Rattle.ecss_write.proofs.packet.asked_last.Tie as tie
 
-enum-known-passed : tie.Need-enum-known-passed
-enum-known-passed c = search needs
-
-enum-known-passed-2 : tie.Need-enum-known-passed-2
-enum-known-passed-2 c = search needs
-
-enum-known-last : tie.Need-enum-known-last
-enum-known-last c = search needs
-
-enum-told : tie.Need-enum-told
-enum-told c = search needs
-
 returns : tie.Need-returns
 returns c = sym (refuses-then _ _ _ (ap sizeAnswer (c .before .passed .given .1)))
 
@@ -30,4 +18,4 @@ returns-3 c = sym (gives-then _ _ _ (ap sizeAnswer (c .before .before .before .p
 pub asked-last-spec : {M : Type 1} → statement M
 asked-last-spec =
     tie.close
-    (tie.spec enum-known-passed enum-known-passed-2 enum-known-last enum-told returns returns-2 returns-3)
+    (tie.spec (λ c. search needs) (λ c. search needs) (λ c. search needs) (λ c. search needs) returns returns-2 returns-3)

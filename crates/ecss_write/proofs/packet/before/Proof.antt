@@ -6,20 +6,8 @@ use borrow.Author.Needs.{needs}
 use Rattle.ecss_write.proofs.packet.before.Statement.{statement}
 use Rattle.ecss_write.proofs.packet.before.Tie as tie
 
-enum-known-first : tie.Need-enum-known-first
-enum-known-first c = search needs
-
 enum-told : tie.Need-enum-told
 enum-told c = search needs
-
-check-requires : tie.Need-check-requires
-check-requires c κs = search needs
-
-enum-known-c : tie.Need-enum-known-c
-enum-known-c c = search needs
-
-enum-told-2 : tie.Need-enum-told-2
-enum-told-2 c = search needs
 
 returns : tie.Need-returns
 returns c = sym (refuses-then _ _ _ (ap checkAnswer (c .before .first .given .1)))
@@ -34,11 +22,11 @@ pub before-spec : {M : Type 1} → statement M
 before-spec =
     tie.close
     (tie.spec
-    enum-known-first
+    (λ c. search needs)
     enum-told
-    check-requires
-    enum-known-c
-    enum-told-2
+    (λ c κs. search needs)
+    (λ c. search needs)
+    (λ c. search needs)
     returns
     returns-2
     returns-3)

@@ -6,14 +6,8 @@ use borrow.Author.Needs.{needs}
 use Rattle.ecss_write.proofs.packet.check_write.Statement.{statement}
 use Rattle.ecss_write.proofs.packet.check_write.Tie as tie
 
-room-asked-requires : tie.Need-room-asked-requires
-room-asked-requires c κs = search needs
-
-asked-last-requires : tie.Need-asked-last-requires
-asked-last-requires c κs = search needs
-
 returns : tie.Need-returns
 returns c = c .asked-last .ensures ∙ then-of _ _ _ (c .before .room-asked .ensures) ∙ sym (write-by-room _ _ _ _ _ _)
 
 pub check-write-spec : {M : Type 1} → statement M
-check-write-spec = tie.close (tie.spec room-asked-requires asked-last-requires returns)
+check-write-spec = tie.close (tie.spec (λ c κs. search needs) (λ c κs. search needs) returns)

@@ -6,12 +6,6 @@ use borrow.Author.Needs.{needs}
 use Rattle.ecss_write.proofs.packet.checksum_of.Statement.{statement}
 use Rattle.ecss_write.proofs.packet.checksum_of.Tie as tie
 
-enum-known-own : tie.Need-enum-known-own
-enum-known-own c = search needs
-
-enum-known-own-2 : tie.Need-enum-known-own-2
-enum-known-own-2 c = search needs
-
 returns : tie.Need-returns
 returns c = sym (refuses-then _ _ _ (ap crcAnswer (c .before .own .given .1)))
 
@@ -19,4 +13,4 @@ returns-2 : tie.Need-returns-2
 returns-2 c = sym (gives-then _ _ _ (ap crcAnswer (c .before .own2 .given .1)))
 
 pub checksum-of-spec : {M : Type 1} → statement M
-checksum-of-spec = tie.close (tie.spec enum-known-own enum-known-own-2 returns returns-2)
+checksum-of-spec = tie.close (tie.spec (λ c. search needs) (λ c. search needs) returns returns-2)

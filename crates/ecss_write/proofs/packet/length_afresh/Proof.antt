@@ -7,18 +7,6 @@ use borrow.Author.Needs.{needs}
 use Rattle.ecss_write.proofs.packet.length_afresh.Statement.{statement}
 use Rattle.ecss_write.proofs.packet.length_afresh.Tie as tie
 
-length-for-requires : tie.Need-length-for-requires
-length-for-requires c κs = search needs
-
-enum-known-field : tie.Need-enum-known-field
-enum-known-field c = search needs
-
-enum-known-field-2 : tie.Need-enum-known-field-2
-enum-known-field-2 c = search needs
-
-with-length-requires : tie.Need-with-length-requires
-with-length-requires c κs = search needs
-
 returns : tie.Need-returns
 returns c = let a = c .before .before .before .before .args in afresh-refused (askedBy (a .asks) (a .h)) (a .start) (a .has-checksum) (a .data-len) (a .h .«data_len») (a .h) _ (sym (c .before .before .before .length-for .ensures) ∙ ap dataLenAnswer (c .before .field .given .1))
 
@@ -29,9 +17,9 @@ pub length-afresh-spec : {M : Type 1} → statement M
 length-afresh-spec =
     tie.close
     (tie.spec
-    length-for-requires
-    enum-known-field
-    enum-known-field-2
-    with-length-requires
+    (λ c κs. search needs)
+    (λ c. search needs)
+    (λ c. search needs)
+    (λ c κs. search needs)
     returns
     returns-2)

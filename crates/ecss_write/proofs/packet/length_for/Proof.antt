@@ -9,17 +9,8 @@ use borrow.Author.Needs.{needs}
 use Rattle.ecss_write.proofs.packet.length_for.Statement.{statement}
 use Rattle.ecss_write.proofs.packet.length_for.Tie as tie
 
-before-requires : tie.Need-before-requires
-before-requires c κs = search needs
-
-enum-known-c : tie.Need-enum-known-c
-enum-known-c c = search needs
-
 enum-told : tie.Need-enum-told
 enum-told c = search needs
-
-data-len-field-requires : tie.Need-data-len-field-requires
-data-len-field-requires c κs = search needs
 
 returns : tie.Need-returns
 unfolding fieldWith
@@ -37,10 +28,10 @@ pub length-for-spec : {M : Type 1} → statement M
 length-for-spec =
     tie.close
     (tie.spec
-    before-requires
-    enum-known-c
+    (λ c κs. search needs)
+    (λ c. search needs)
     enum-told
-    data-len-field-requires
+    (λ c κs. search needs)
     returns
     returns-2
     returns-3)

@@ -8,21 +8,6 @@ use borrow.Author.Needs.{needs}
 use Rattle.ecss_write.proofs.packet.made.Statement.{statement}
 use Rattle.ecss_write.proofs.packet.made.Tie as tie
 
-as-type-requires : tie.Need-as-type-requires
-as-type-requires c κs = search needs
-
-length-for-requires : tie.Need-length-for-requires
-length-for-requires c κs = search needs
-
-enum-known-field : tie.Need-enum-known-field
-enum-known-field c = search needs
-
-enum-known-field-2 : tie.Need-enum-known-field-2
-enum-known-field-2 c = search needs
-
-with-length-requires : tie.Need-with-length-requires
-with-length-requires c κs = search needs
-
 returns : tie.Need-returns
 returns c =
     let k = c .before .before .before in
@@ -39,10 +24,10 @@ pub made-spec : {M : Type 1} → statement M
 made-spec =
     tie.close
     (tie.spec
-    as-type-requires
-    length-for-requires
-    enum-known-field
-    enum-known-field-2
-    with-length-requires
+    (λ c κs. search needs)
+    (λ c κs. search needs)
+    (λ c. search needs)
+    (λ c. search needs)
+    (λ c κs. search needs)
     returns
     returns-2)

@@ -10,44 +10,8 @@ use borrow.Author.Needs.{needs}
 use Rattle.ecss_write.proofs.packet.own_checksum.Statement.{statement}
 use Rattle.ecss_write.proofs.packet.own_checksum.Tie as tie
 
-before-requires : tie.Need-before-requires
-before-requires c κs = search needs
-
-enum-known-c : tie.Need-enum-known-c
-enum-known-c c = search needs
-
 enum-told : tie.Need-enum-told
 enum-told c = search needs
-
-enum-known-version : tie.Need-enum-known-version
-enum-known-version c = search needs
-
-enum-told-2 : tie.Need-enum-told-2
-enum-told-2 c = search needs
-
-slice-aggregate-write-to-slice : tie.Need-slice-aggregate-write-to-slice
-slice-aggregate-write-to-slice c = search needs
-
-write-to-slice-requires : tie.Need-write-to-slice-requires
-write-to-slice-requires c κs = search needs
-
-new-requires : tie.Need-new-requires
-new-requires c κs = search needs
-
-slice-aggregate-update-no-table : tie.Need-slice-aggregate-update-no-table
-slice-aggregate-update-no-table c = search needs
-
-update-no-table-requires : tie.Need-update-no-table-requires
-update-no-table-requires c κs = search needs
-
-update-no-table-requires-2 : tie.Need-update-no-table-requires-2
-update-no-table-requires-2 c κs = search needs
-
-update-no-table-requires-3 : tie.Need-update-no-table-requires-3
-update-no-table-requires-3 c κs = search needs
-
-finalize-requires : tie.Need-finalize-requires
-finalize-requires c κs = search needs
 
 returns : tie.Need-returns
 unfolding ownWith
@@ -64,19 +28,19 @@ pub own-checksum-spec : {M : Type 1} → statement M
 own-checksum-spec =
     tie.close
     (tie.spec
-    before-requires
-    enum-known-c
+    (λ c κs. search needs)
+    (λ c. search needs)
     enum-told
-    enum-known-version
-    enum-told-2
-    slice-aggregate-write-to-slice
-    write-to-slice-requires
-    new-requires
-    slice-aggregate-update-no-table
-    update-no-table-requires
-    update-no-table-requires-2
-    update-no-table-requires-3
-    finalize-requires
+    (λ c. search needs)
+    (λ c. search needs)
+    (λ c. search needs)
+    (λ c κs. search needs)
+    (λ c κs. search needs)
+    (λ c. search needs)
+    (λ c κs. search needs)
+    (λ c κs. search needs)
+    (λ c κs. search needs)
+    (λ c κs. search needs)
     returns
     returns-2
     returns-3)

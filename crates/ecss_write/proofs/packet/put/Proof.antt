@@ -17,20 +17,8 @@ chosen : (x y : Bool) (before after : Passed) (start : ℕ) (b : Bool) (n m : �
 chosen x y before after start b n m o l k r e =
     subst (λ (z : Bool). Wrote (putWith z before after start b n m) (putOctets z b o) l r k) (sym e)
 
-write-bare-requires : tie.Need-write-bare-requires
-write-bare-requires c κs = search needs
-
-same-length : tie.Need-same-length
-same-length c = search needs
-
 returns : tie.Need-returns
 returns c = chosen _ true _ _ _ _ _ _ _ _ _ _ (c .before .before .before .before .if1 .taken) (c .before .before .write-bare .ensures)
-
-write-requires : tie.Need-write-requires
-write-requires c κs = search needs
-
-same-length-2 : tie.Need-same-length-2
-same-length-2 c = search needs
 
 returns-2 : tie.Need-returns-2
 returns-2 c = chosen _ false _ _ _ _ _ _ _ _ _ _ (c .before .before .before .before .if1 .left) (c .before .before .write .ensures)
@@ -38,4 +26,4 @@ returns-2 c = chosen _ false _ _ _ _ _ _ _ _ _ _ (c .before .before .before .bef
 pub put-spec : {M : Type 1} → statement M
 put-spec =
     tie.close
-    (tie.spec write-bare-requires same-length returns write-requires same-length-2 returns-2)
+    (tie.spec (λ c κs. search needs) (λ c. search needs) returns (λ c κs. search needs) (λ c. search needs) returns-2)

@@ -4,24 +4,9 @@ use borrow.Author.Needs.{needs}
 use Rattle.ecss_write.proofs.packet.put_data.Statement.{statement}
 use Rattle.ecss_write.proofs.packet.put_data.Tie as tie
 
-sub-fill : tie.Need-sub-fill
-sub-fill c = search needs
-
-part-fill-start : tie.Need-part-fill-start
-part-fill-start c = search needs
-
-part-fill-end : tie.Need-part-fill-end
-part-fill-end c = search needs
-
-fill-requires : tie.Need-fill-requires
-fill-requires c κs = search needs
-
-same-length : tie.Need-same-length
-same-length c = search needs
-
 returns : tie.Need-returns
 returns c = let a = c .before .before .before .before .before .before .args in fill-left (a .start) (a .buf .now) (a .«data» .now) _ (c .before .before .before .before .before .before .pre .1) (c .before .before .fill .ensures .left)
 
 pub put-data-spec : {M : Type 1} → statement M
 put-data-spec =
-    tie.close (tie.spec sub-fill part-fill-start part-fill-end fill-requires same-length returns)
+    tie.close (tie.spec (λ c. search needs) (λ c. search needs) (λ c. search needs) (λ c κs. search needs) (λ c. search needs) returns)

@@ -8,32 +8,14 @@ use borrow.Author.Needs.{needs}
 use Rattle.ecss_write.proofs.packet.reserve.Statement.{statement}
 use Rattle.ecss_write.proofs.packet.reserve.Tie as tie
 
-add-check-reserve : tie.Need-add-check-reserve
-add-check-reserve c = search needs
-
-check-reserve-requires : tie.Need-check-reserve-requires
-check-reserve-requires c κs = search needs
-
-enum-known-total : tie.Need-enum-known-total
-enum-known-total c = search needs
-
-enum-known-total-2 : tie.Need-enum-known-total-2
-enum-known-total-2 c = search needs
-
 field-of-requires : tie.Need-field-of-requires
 field-of-requires c κs = let w = reserves _ _ _ _ _ _ _ (sym (c .before .before .before .check-reserve .ensures) ∙ ap sizeAnswer (c .before .total2 .given .1)) in w .1
-
-with-length-requires : tie.Need-with-length-requires
-with-length-requires c κs = search needs
 
 put-head-requires : tie.Need-put-head-requires
 put-head-requires c κs = let w = reserves _ _ _ _ _ _ _ (sym (c .before .before .before .before .before .before .check-reserve .ensures) ∙ ap sizeAnswer (c .before .before .before .before .total2 .given .1)) in (length-asked _ _ _ (head-asked _ _ _ (w .0 .before-passed)) (c .before .with-length .ensures), omega (arith, w .0 .is, w .0 .fits))
 
 returns : tie.Need-returns
 returns c = let w = sym (c .before .before .before .check-reserve .ensures) ∙ ap sizeAnswer (c .before .total .given .1) in (sym w, sym (headed-by _ _ _ _ _ w))
-
-same-length : tie.Need-same-length
-same-length c = search needs
 
 returns-2 : tie.Need-returns-2
 returns-2 c = let a = c .before .before .before .before .before .before .before .before .before .before .before .before .args in let p = sym (c .before .before .before .before .before .before .before .before .before .check-reserve .ensures) ∙ ap sizeAnswer (c .before .before .before .before .before .before .before .total2 .given .1) in (sym p, headed-wrote _ _ (a .h) _ (a .sec .now) (a .buf .now) _ (a .has-checksum) (a .data-len) _ p (c .before .before .before .before .with-length .ensures ∙ ap (withLength (a .h)) (c .before .before .before .before .before .field-of .ensures)) (c .before .before .put-head .ensures))
@@ -42,13 +24,13 @@ pub reserve-spec : {M : Type 1} → statement M
 reserve-spec =
     tie.close
     (tie.spec
-    add-check-reserve
-    check-reserve-requires
-    enum-known-total
-    enum-known-total-2
+    (λ c. search needs)
+    (λ c κs. search needs)
+    (λ c. search needs)
+    (λ c. search needs)
     field-of-requires
-    with-length-requires
+    (λ c κs. search needs)
     put-head-requires
     returns
-    same-length
+    (λ c. search needs)
     returns-2)

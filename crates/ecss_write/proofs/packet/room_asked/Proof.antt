@@ -6,18 +6,6 @@ use borrow.Author.Needs.{needs}
 use Rattle.ecss_write.proofs.packet.room_asked.Statement.{statement}
 use Rattle.ecss_write.proofs.packet.room_asked.Tie as tie
 
-before-requires : tie.Need-before-requires
-before-requires c κs = search needs
-
-enum-known-c : tie.Need-enum-known-c
-enum-known-c c = search needs
-
-enum-told : tie.Need-enum-told
-enum-told c = search needs
-
-room-for-requires : tie.Need-room-for-requires
-room-for-requires c κs = search needs
-
 returns : tie.Need-returns
 returns c = sym (refuses-then _ _ _ (sym (c .before .before .before .before2 .ensures) ∙ ap checkAnswer (c .before .c .given .1)))
 
@@ -27,4 +15,4 @@ returns-2 c = c .room-for .ensures ∙ sym (gives-then _ _ _ (sym (c .before .be
 pub room-asked-spec : {M : Type 1} → statement M
 room-asked-spec =
     tie.close
-    (tie.spec before-requires enum-known-c enum-told room-for-requires returns returns-2)
+    (tie.spec (λ c κs. search needs) (λ c. search needs) (λ c. search needs) (λ c κs. search needs) returns returns-2)

@@ -8,15 +8,6 @@ use borrow.Author.Needs.{needs}
 use Rattle.ecss_write.proofs.packet.write_bare.Statement.{statement}
 use Rattle.ecss_write.proofs.packet.write_bare.Tie as tie
 
-add-start : tie.Need-add-start
-add-start c = search needs
-
-check-write-requires : tie.Need-check-write-requires
-check-write-requires c κs = search needs
-
-enum-known-total : tie.Need-enum-known-total
-enum-known-total c = search needs
-
 enum-told : tie.Need-enum-told
 enum-told c = search needs
 
@@ -32,9 +23,6 @@ add-t19 c = let p = sym (c .before .before .before .before .before .before .befo
 returns : tie.Need-returns
 returns c = let w = refuses-then _ _ _ (sym (c .before .before .before .check-write .ensures) ∙ ap sizeAnswer (c .before .total .given .1)) in record { answered = sym w; left = sym (left-refused _ _ _ _ w) }
 
-same-length : tie.Need-same-length
-same-length c = search needs
-
 returns-2 : tie.Need-returns-2
 returns-2 c = let a = c .before .before .before .before .before .before .before .before .before .before .before .before .before .before .args in let p = sym (c .before .before .before .before .before .before .before .before .before .before .check-write .ensures) ∙ ap sizeAnswer (c .before .before .before .before .before .before .before .before .enum-told .given .1) in bare-wrote _ _ (a .h) (a .sec .now) (a .«data» .now) (a .buf .now) _ _ (a .has-checksum) _ _ p (c .before .before .before .before .before .before .put-head .ensures) (c .before .before .put-data .ensures) refl
 
@@ -42,13 +30,13 @@ pub write-bare-spec : {M : Type 1} → statement M
 write-bare-spec =
     tie.close
     (tie.spec
-    add-start
-    check-write-requires
-    enum-known-total
+    (λ c. search needs)
+    (λ c κs. search needs)
+    (λ c. search needs)
     enum-told
     put-head-requires
     put-data-requires
     add-t19
     returns
-    same-length
+    (λ c. search needs)
     returns-2)

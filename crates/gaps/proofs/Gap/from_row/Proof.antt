@@ -7,40 +7,10 @@ use borrow.Author.Needs.{needs}
 use Rattle.gaps.proofs.Gap.from_row.Statement.{statement}
 use Rattle.gaps.proofs.Gap.from_row.Tie as tie
 
-array-read-new : tie.Need-array-read-new
-array-read-new c = search needs
-
-new-requires : tie.Need-new-requires
-new-requires c κs = search needs
-
-array-read-new-2 : tie.Need-array-read-new-2
-array-read-new-2 c = search needs
-
-new-requires-2 : tie.Need-new-requires-2
-new-requires-2 c κs = search needs
-
-array-read-new-3 : tie.Need-array-read-new-3
-array-read-new-3 c = search needs
-
-new-requires-3 : tie.Need-new-requires-3
-new-requires-3 c κs = search needs
-
-enum-known-a : tie.Need-enum-known-a
-enum-known-a c = search needs
-
-enum-known-a-2 : tie.Need-enum-known-a-2
-enum-known-a-2 c = search needs
-
 returns : tie.Need-returns
 returns c =
     let a = sym (c .before .before .before .before .before .new .ensures) ∙ ap apidAnswer (c .before .a2 .given .1) in
     apid-over _ _ _ _ (then-refused _ _ _ a)
-
-enum-known-e : tie.Need-enum-known-e
-enum-known-e c = search needs
-
-enum-known-e-2 : tie.Need-enum-known-e-2
-enum-known-e-2 c = search needs
 
 returns-2 : tie.Need-returns-2
 returns-2 c =
@@ -48,12 +18,6 @@ returns-2 c =
     let a = sym (k .before .before .before .before .new .ensures) ∙ ap apidAnswer (k .a .given .1) in
     let e = sym (k .before .before .before .new2 .ensures) ∙ ap seqCountAnswer (c .before .e2 .given .1) in
     expected-over _ _ _ (passed _ _ _ a .0) _ (then-refused _ _ _ e)
-
-enum-known-f : tie.Need-enum-known-f
-enum-known-f c = search needs
-
-enum-known-f-2 : tie.Need-enum-known-f-2
-enum-known-f-2 c = search needs
 
 returns-3 : tie.Need-returns-3
 returns-3 c =
@@ -77,19 +41,19 @@ pub from-row-spec : {M : Type 1} → statement M
 from-row-spec =
     tie.close
     (tie.spec
-    array-read-new
-    new-requires
-    array-read-new-2
-    new-requires-2
-    array-read-new-3
-    new-requires-3
-    enum-known-a
-    enum-known-a-2
+    (λ c. search needs)
+    (λ c κs. search needs)
+    (λ c. search needs)
+    (λ c κs. search needs)
+    (λ c. search needs)
+    (λ c κs. search needs)
+    (λ c. search needs)
+    (λ c. search needs)
     returns
-    enum-known-e
-    enum-known-e-2
+    (λ c. search needs)
+    (λ c. search needs)
     returns-2
-    enum-known-f
-    enum-known-f-2
+    (λ c. search needs)
+    (λ c. search needs)
     returns-3
     returns-4)

@@ -13,23 +13,11 @@ use borrow.Author.Needs.{needs}
 use Rattle.gaps.proofs.Scan.take.Statement.{statement}
 use Rattle.gaps.proofs.Scan.take.Tie as tie
 
-enum-told : tie.Need-enum-told
-enum-told c = search needs
-
-enum-known-step : tie.Need-enum-known-step
-enum-known-step c = search needs
-
 end-requires : tie.Need-end-requires
 end-requires c κs =
     let q = ap (λ (x : Step). lengthBy (stepAnswer x)) (c .before .step .given .1) in
     let h = c .before .before .before .pre .1 in
     omega (arith, q, h)
-
-enum-known-step-2 : tie.Need-enum-known-step-2
-enum-known-step-2 c = search needs
-
-enum-told-2 : tie.Need-enum-told-2
-enum-told-2 c = search needs
 
 refuse-requires : tie.Need-refuse-requires
 refuse-requires c κs =
@@ -37,15 +25,6 @@ refuse-requires c κs =
     let q = ap (λ (x : Step). lengthBy (stepAnswer x)) (step .step2 .given .1) in
     let h = step .before .before .pre .1 in
     omega (arith, q, h)
-
-enum-known-verdict : tie.Need-enum-known-verdict
-enum-known-verdict c = search needs
-
-apid-requires : tie.Need-apid-requires
-apid-requires c κs = search needs
-
-seq-count-requires : tie.Need-seq-count-requires
-seq-count-requires c κs = search needs
 
 accept-requires : tie.Need-accept-requires
 accept-requires c κs =
@@ -98,15 +77,15 @@ pub take-spec : {M : Type 1} → statement M
 take-spec =
     tie.close
     (tie.spec
-    enum-told
-    enum-known-step
+    (λ c. search needs)
+    (λ c. search needs)
     end-requires
-    enum-known-step-2
-    enum-told-2
+    (λ c. search needs)
+    (λ c. search needs)
     refuse-requires
-    enum-known-verdict
-    apid-requires
-    seq-count-requires
+    (λ c. search needs)
+    (λ c κs. search needs)
+    (λ c κs. search needs)
     accept-requires
     returns
     returns-2

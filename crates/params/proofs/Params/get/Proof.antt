@@ -12,15 +12,6 @@ use borrow.Author.Needs.{needs}
 use Rattle.params.proofs.Params.get.Statement.{statement}
 use Rattle.params.proofs.Params.get.Tie as tie
 
-used-requires : tie.Need-used-requires
-used-requires c κs = search needs
-
-mul-t6 : tie.Need-mul-t6
-mul-t6 c = search needs
-
-array-copy-out-t9 : tie.Need-array-copy-out-t9
-array-copy-out-t9 c = search needs
-
 returns : tie.Need-returns
 returns c =
     let a = c .before .before .before .before .args in
@@ -39,4 +30,4 @@ returns-2 c =
     ap (λ (b : Bool). pick b (Some (getD (pairsOf (a .self)) (a .i) blank)) None) (sym (le-ltb (a .i) (length (pairsOf (a .self))) (omega (arith, n, h))))
 
 pub get-spec : {M : Type 1} → statement M
-get-spec = tie.close (tie.spec used-requires mul-t6 array-copy-out-t9 returns returns-2)
+get-spec = tie.close (tie.spec (λ c κs. search needs) (λ c. search needs) (λ c. search needs) returns returns-2)

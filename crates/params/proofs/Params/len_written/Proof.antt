@@ -12,12 +12,6 @@ use borrow.Author.Needs.{needs}
 use Rattle.params.proofs.Params.len_written.Statement.{statement}
 use Rattle.params.proofs.Params.len_written.Tie as tie
 
-check-list-requires : tie.Need-check-list-requires
-check-list-requires c κs = search needs
-
-enum-known-check : tie.Need-enum-known-check
-enum-known-check c = search needs
-
 returns : tie.Need-returns
 returns c =
     sym (length-refused _ _ (request-list _ _ _ _ (sym (c .before .before .before .check-list .ensures) ∙ ap checkAnswer (c .before .check .given .1))))
@@ -35,15 +29,6 @@ returns-2 c =
 returns-3 : tie.Need-returns-3
 returns-3 c =
     sym (length-refused _ _ (request-many _ _ _ (sym (c .before .before .before .before .before .before .check-list .ensures) ∙ ap checkAnswer (c .before .before .before .before .enum-told .given .1)) (sym (c .before .before .before .ids-known .ensures) ∙ not-false _ (c .before .before .if1 .left)) (c .if2 .taken)))
-
-pairs-len-requires : tie.Need-pairs-len-requires
-pairs-len-requires c κs = search needs
-
-enum-known-len : tie.Need-enum-known-len
-enum-known-len c = search needs
-
-enum-told-2 : tie.Need-enum-told-2
-enum-told-2 c = search needs
 
 returns-4 : tie.Need-returns-4
 returns-4 c =
@@ -67,16 +52,16 @@ pub len-written-spec : {M : Type 1} → statement M
 len-written-spec =
     tie.close
     (tie.spec
-    check-list-requires
-    enum-known-check
+    (λ c κs. search needs)
+    (λ c. search needs)
     returns
     enum-told
     ids-known-requires
     returns-2
     returns-3
-    pairs-len-requires
-    enum-known-len
-    enum-told-2
+    (λ c κs. search needs)
+    (λ c. search needs)
+    (λ c. search needs)
     returns-4
     add-t11
     returns-5)

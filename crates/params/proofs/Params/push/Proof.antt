@@ -9,15 +9,6 @@ use borrow.Author.Needs.{needs}
 use Rattle.params.proofs.Params.push.Statement.{statement}
 use Rattle.params.proofs.Params.push.Tie as tie
 
-mul-pairs : tie.Need-mul-pairs
-mul-pairs c = search needs
-
-array-set-from-pairs : tie.Need-array-set-from-pairs
-array-set-from-pairs c = search needs
-
-add-t6 : tie.Need-add-t6
-add-t6 c = search needs
-
 returns : tie.Need-returns
 returns c =
     let p = c .before .before .args .self in
@@ -29,4 +20,4 @@ returns-2 c =
     ap (λ (b : Bool). pick b (record { pairs = set (p .pairs) (p .count) (c .before .before .args .pair); count = p .count + 1 }) (record { pairs = p .pairs; count = 256 })) (sym (le-ltb (p .count) 255 (c .if1 .left)))
 
 pub push-spec : {M : Type 1} → statement M
-push-spec = tie.close (tie.spec mul-pairs array-set-from-pairs add-t6 returns returns-2)
+push-spec = tie.close (tie.spec (λ c. search needs) (λ c. search needs) (λ c. search needs) returns returns-2)

@@ -9,15 +9,6 @@ use borrow.Author.Needs.{needs}
 use Rattle.params.proofs.Params.read.Statement.{statement}
 use Rattle.params.proofs.Params.read.Tie as tie
 
-check-list-requires : tie.Need-check-list-requires
-check-list-requires c κs = search needs
-
-enum-known-check : tie.Need-enum-known-check
-enum-known-check c = search needs
-
-refused-requires : tie.Need-refused-requires
-refused-requires c κs = search needs
-
 returns : tie.Need-returns
 returns c =
     let a = c .before .before .before .before .before .before .args in
@@ -25,12 +16,6 @@ returns c =
 
 enum-told : tie.Need-enum-told
 enum-told c = search needs
-
-ended-early-requires : tie.Need-ended-early-requires
-ended-early-requires c κs = search needs
-
-refused-requires-2 : tie.Need-refused-requires-2
-refused-requires-2 c κs = search needs
 
 returns-2 : tie.Need-returns-2
 returns-2 c =
@@ -51,13 +36,13 @@ pub read-spec : {M : Type 1} → statement M
 read-spec =
     tie.close
     (tie.spec
-    check-list-requires
-    enum-known-check
-    refused-requires
+    (λ c κs. search needs)
+    (λ c. search needs)
+    (λ c κs. search needs)
     returns
     enum-told
-    ended-early-requires
-    refused-requires-2
+    (λ c κs. search needs)
+    (λ c κs. search needs)
     returns-2
     read-pairs-requires
     returns-3)

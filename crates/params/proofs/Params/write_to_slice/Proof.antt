@@ -9,15 +9,6 @@ use borrow.Author.Needs.{needs}
 use Rattle.params.proofs.Params.write_to_slice.Statement.{statement}
 use Rattle.params.proofs.Params.write_to_slice.Tie as tie
 
-len-written-requires : tie.Need-len-written-requires
-len-written-requires c κs = search needs
-
-enum-known-len : tie.Need-enum-known-len
-enum-known-len c = search needs
-
-enum-told : tie.Need-enum-told
-enum-told c = search needs
-
 returns : tie.Need-returns
 returns c = wrote-not _ _ _ _ (c .enum-told .given .1) (c .before .before .len-written .ensures)
 
@@ -43,9 +34,9 @@ pub write-to-slice-spec : {M : Type 1} → statement M
 write-to-slice-spec =
     tie.close
     (tie.spec
-    len-written-requires
-    enum-known-len
-    enum-told
+    (λ c κs. search needs)
+    (λ c. search needs)
+    (λ c. search needs)
     returns
     returns-2
     cast-buf

@@ -6,15 +6,6 @@ use borrow.Author.Needs.{needs}
 use Rattle.profile.proofs.ProfileBuilder.build.Statement.{statement}
 use Rattle.profile.proofs.ProfileBuilder.build.Tie as tie
 
-creator-requires : tie.Need-creator-requires
-creator-requires c κs = search needs
-
-enum-known-made : tie.Need-enum-known-made
-enum-known-made c = search needs
-
-enum-told : tie.Need-enum-told
-enum-told c = search needs
-
 returns : tie.Need-returns
 returns c = sym (refuses-then _ _ _ (sym (c .before .before .before .creator .ensures) ∙ ap creatorAnswer (c .before .made .given .1)))
 
@@ -22,4 +13,4 @@ returns-2 : tie.Need-returns-2
 returns-2 c = sym (gives-then _ _ _ (sym (c .before .before .creator .ensures) ∙ ap creatorAnswer (c .enum-told .given .1)))
 
 pub build-spec : {M : Type 1} → statement M
-build-spec = tie.close (tie.spec creator-requires enum-known-made enum-told returns returns-2)
+build-spec = tie.close (tie.spec (λ c κs. search needs) (λ c. search needs) (λ c. search needs) returns returns-2)

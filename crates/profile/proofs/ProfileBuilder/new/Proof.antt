@@ -9,27 +9,6 @@ use borrow.Author.Needs.{needs}
 use Rattle.profile.proofs.ProfileBuilder.new.Statement.{statement}
 use Rattle.profile.proofs.ProfileBuilder.new.Tie as tie
 
-default-requires : tie.Need-default-requires
-default-requires c κs = search needs
-
-default-requires-2 : tie.Need-default-requires-2
-default-requires-2 c κs = search needs
-
-apid-requires : tie.Need-apid-requires
-apid-requires c κs = search needs
-
-psc-requires : tie.Need-psc-requires
-psc-requires c κs = search needs
-
-new-requires : tie.Need-new-requires
-new-requires c κs = search needs
-
-with-acceptance-requires : tie.Need-with-acceptance-requires
-with-acceptance-requires c κs = search needs
-
-with-completion-requires : tie.Need-with-completion-requires
-with-completion-requires c κs = search needs
-
 returns : tie.Need-returns
 returns c =
     let p = c .before .before .before in
@@ -44,11 +23,11 @@ pub new-spec : {M : Type 1} → statement M
 new-spec =
     tie.close
     (tie.spec
-    default-requires
-    default-requires-2
-    apid-requires
-    psc-requires
-    new-requires
-    with-acceptance-requires
-    with-completion-requires
+    (λ c κs. search needs)
+    (λ c κs. search needs)
+    (λ c κs. search needs)
+    (λ c κs. search needs)
+    (λ c κs. search needs)
+    (λ c κs. search needs)
+    (λ c κs. search needs)
     returns)

@@ -5,15 +5,9 @@ use borrow.Author.Needs.{needs}
 use Rattle.profile.proofs.ProfileBuilder.with_message_subtype_id.Statement.{statement}
 use Rattle.profile.proofs.ProfileBuilder.with_message_subtype_id.Tie as tie
 
-new-requires : tie.Need-new-requires
-new-requires c κs = search needs
-
-with-message-type-id-requires : tie.Need-with-message-type-id-requires
-with-message-type-id-requires c κs = search needs
-
 returns : tie.Need-returns
 returns c = c .with-message-type-id .ensures ∙ ap (withType (c .before .before .before .before .args .self)) (c .before .new .ensures)
 
 pub with-message-subtype-id-spec : {M : Type 1} → statement M
 with-message-subtype-id-spec =
-    tie.close (tie.spec new-requires with-message-type-id-requires returns)
+    tie.close (tie.spec (λ c κs. search needs) (λ c κs. search needs) returns)

@@ -8,12 +8,6 @@ use borrow.Author.Needs.{needs}
 use Rattle.profile.proofs.ProfileBuilder.with_sequence_count.Statement.{statement}
 use Rattle.profile.proofs.ProfileBuilder.with_sequence_count.Tie as tie
 
-new-requires : tie.Need-new-requires
-new-requires c κs = search needs
-
-with-packet-sequence-control-requires : tie.Need-with-packet-sequence-control-requires
-with-packet-sequence-control-requires c κs = search needs
-
 returns : tie.Need-returns
 returns c =
     let b = c .before .before .before .before .args .self in
@@ -21,4 +15,4 @@ returns c =
 
 pub with-sequence-count-spec : {M : Type 1} → statement M
 with-sequence-count-spec =
-    tie.close (tie.spec new-requires with-packet-sequence-control-requires returns)
+    tie.close (tie.spec (λ c κs. search needs) (λ c κs. search needs) returns)

@@ -5,14 +5,8 @@ use borrow.Author.Needs.{needs}
 use Rattle.profile.proofs.ProfileBuilder.with_service_type_id.Statement.{statement}
 use Rattle.profile.proofs.ProfileBuilder.with_service_type_id.Tie as tie
 
-new-requires : tie.Need-new-requires
-new-requires c κs = search needs
-
-with-message-type-id-requires : tie.Need-with-message-type-id-requires
-with-message-type-id-requires c κs = search needs
-
 returns : tie.Need-returns
 returns c = c .with-message-type-id .ensures ∙ ap (withType (c .before .before .before .before .args .self)) (c .before .new .ensures)
 
 pub with-service-type-id-spec : {M : Type 1} → statement M
-with-service-type-id-spec = tie.close (tie.spec new-requires with-message-type-id-requires returns)
+with-service-type-id-spec = tie.close (tie.spec (λ c κs. search needs) (λ c κs. search needs) returns)

@@ -6,18 +6,6 @@ use borrow.Author.Needs.{needs}
 use Rattle.profile.proofs.ProfileTc.calc_own_crc16.Statement.{statement}
 use Rattle.profile.proofs.ProfileTc.calc_own_crc16.Tie as tie
 
-creator-requires : tie.Need-creator-requires
-creator-requires c κs = search needs
-
-enum-known-made : tie.Need-enum-known-made
-enum-known-made c = search needs
-
-enum-known-made-2 : tie.Need-enum-known-made-2
-enum-known-made-2 c = search needs
-
-calc-own-crc16-requires : tie.Need-calc-own-crc16-requires
-calc-own-crc16-requires c κs = search needs
-
 returns : tie.Need-returns
 returns c = sym (refuses-then _ _ _ (sym (c .before .before .before .creator .ensures) ∙ ap creatorAnswer (c .before .made .given .1)))
 
@@ -28,9 +16,9 @@ pub calc-own-crc16-spec : {M : Type 1} → statement M
 calc-own-crc16-spec =
     tie.close
     (tie.spec
-    creator-requires
-    enum-known-made
-    enum-known-made-2
-    calc-own-crc16-requires
+    (λ c κs. search needs)
+    (λ c. search needs)
+    (λ c. search needs)
+    (λ c κs. search needs)
     returns
     returns-2)

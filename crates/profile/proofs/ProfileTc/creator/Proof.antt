@@ -8,27 +8,6 @@ use borrow.Author.Needs.{needs}
 use Rattle.profile.proofs.ProfileTc.creator.Statement.{statement}
 use Rattle.profile.proofs.ProfileTc.creator.Tie as tie
 
-first-header-requires : tie.Need-first-header-requires
-first-header-requires c κs = search needs
-
-sec-header-requires : tie.Need-sec-header-requires
-sec-header-requires c κs = search needs
-
-default-requires : tie.Need-default-requires
-default-requires c κs = search needs
-
-new-requires : tie.Need-new-requires
-new-requires c κs = search needs
-
-enum-known-made : tie.Need-enum-known-made
-enum-known-made c = search needs
-
-enum-known-made-2 : tie.Need-enum-known-made-2
-enum-known-made-2 c = search needs
-
-within-requires : tie.Need-within-requires
-within-requires c κs = search needs
-
 returns : tie.Need-returns
 unfolding creatorFor
 returns c =
@@ -51,12 +30,12 @@ pub creator-spec : {M : Type 1} → statement M
 creator-spec =
     tie.close
     (tie.spec
-    first-header-requires
-    sec-header-requires
-    default-requires
-    new-requires
-    enum-known-made
-    enum-known-made-2
-    within-requires
+    (λ c κs. search needs)
+    (λ c κs. search needs)
+    (λ c κs. search needs)
+    (λ c κs. search needs)
+    (λ c. search needs)
+    (λ c. search needs)
+    (λ c κs. search needs)
     returns
     returns-2)

@@ -5,14 +5,8 @@ use borrow.Author.Needs.{needs}
 use Rattle.profile.proofs.ProfileTc.first_header.Statement.{statement}
 use Rattle.profile.proofs.ProfileTc.first_header.Tie as tie
 
-new-for-tc-requires : tie.Need-new-for-tc-requires
-new-for-tc-requires c κs = search needs
-
-new-requires : tie.Need-new-requires
-new-requires c κs = search needs
-
 returns : tie.Need-returns
 returns c = c .new .ensures ∙ ap (λ i. headerOf i (c .before .before .args .self .psc) 0 0) (c .before .new-for-tc .ensures)
 
 pub first-header-spec : {M : Type 1} → statement M
-first-header-spec = tie.close (tie.spec new-for-tc-requires new-requires returns)
+first-header-spec = tie.close (tie.spec (λ c κs. search needs) (λ c κs. search needs) returns)

@@ -7,18 +7,6 @@ use borrow.Author.Needs.{needs}
 use Rattle.profile.proofs.ProfileTc.len_written.Statement.{statement}
 use Rattle.profile.proofs.ProfileTc.len_written.Tie as tie
 
-sp-header-requires : tie.Need-sp-header-requires
-sp-header-requires c κs = search needs
-
-enum-known-made : tie.Need-enum-known-made
-enum-known-made c = search needs
-
-enum-known-made-2 : tie.Need-enum-known-made-2
-enum-known-made-2 c = search needs
-
-packet-len-requires : tie.Need-packet-len-requires
-packet-len-requires c κs = search needs
-
 returns : tie.Need-returns
 returns c = sym (refuses-then _ _ _ (sym (c .before .before .before .sp-header .ensures) ∙ ap spHeaderAnswer (c .before .made .given .1)))
 
@@ -29,9 +17,9 @@ pub len-written-spec : {M : Type 1} → statement M
 len-written-spec =
     tie.close
     (tie.spec
-    sp-header-requires
-    enum-known-made
-    enum-known-made-2
-    packet-len-requires
+    (λ c κs. search needs)
+    (λ c. search needs)
+    (λ c. search needs)
+    (λ c κs. search needs)
     returns
     returns-2)

@@ -7,18 +7,6 @@ use borrow.Author.Needs.{needs}
 use Rattle.profile.proofs.ProfileTc.sp_header.Statement.{statement}
 use Rattle.profile.proofs.ProfileTc.sp_header.Tie as tie
 
-creator-requires : tie.Need-creator-requires
-creator-requires c κs = search needs
-
-enum-known-made : tie.Need-enum-known-made
-enum-known-made c = search needs
-
-enum-known-made-2 : tie.Need-enum-known-made-2
-enum-known-made-2 c = search needs
-
-sp-header-requires : tie.Need-sp-header-requires
-sp-header-requires c κs = search needs
-
 returns : tie.Need-returns
 returns c = sym (refuses-then _ _ _ (sym (c .before .before .before .creator .ensures) ∙ ap creatorAnswer (c .before .made .given .1)))
 
@@ -29,9 +17,9 @@ pub sp-header-spec : {M : Type 1} → statement M
 sp-header-spec =
     tie.close
     (tie.spec
-    creator-requires
-    enum-known-made
-    enum-known-made-2
-    sp-header-requires
+    (λ c κs. search needs)
+    (λ c. search needs)
+    (λ c. search needs)
+    (λ c κs. search needs)
     returns
     returns-2)

@@ -6,26 +6,11 @@ use borrow.Author.Needs.{needs}
 use Rattle.profile.proofs.ProfileTc.write_to_slice.Statement.{statement}
 use Rattle.profile.proofs.ProfileTc.write_to_slice.Tie as tie
 
-creator-requires : tie.Need-creator-requires
-creator-requires c κs = search needs
-
-enum-known-made : tie.Need-enum-known-made
-enum-known-made c = search needs
-
-enum-known-made-2 : tie.Need-enum-known-made-2
-enum-known-made-2 c = search needs
-
-write-to-slice-requires : tie.Need-write-to-slice-requires
-write-to-slice-requires c κs = search needs
-
 returns : tie.Need-returns
 returns c =
     let k = c .before .before .before in
     let a = k .before .before .before .args in
     command-refused (a .self) (a .app-data .now) (a .buf .now) _ _ (sym (k .creator .ensures) ∙ ap creatorAnswer (c .before .made .given .1)) refl
-
-same-length : tie.Need-same-length
-same-length c = search needs
 
 returns-2 : tie.Need-returns-2
 returns-2 c =
@@ -38,10 +23,10 @@ pub write-to-slice-spec : {M : Type 1} → statement M
 write-to-slice-spec =
     tie.close
     (tie.spec
-    creator-requires
-    enum-known-made
-    enum-known-made-2
-    write-to-slice-requires
+    (λ c κs. search needs)
+    (λ c. search needs)
+    (λ c. search needs)
+    (λ c κs. search needs)
     returns
-    same-length
+    (λ c. search needs)
     returns-2)

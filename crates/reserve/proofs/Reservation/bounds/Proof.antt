@@ -8,17 +8,8 @@ use borrow.Author.Needs.{needs}
 use Rattle.reserve.proofs.Reservation.bounds.Statement.{statement}
 use Rattle.reserve.proofs.Reservation.bounds.Tie as tie
 
-check-in-requires : tie.Need-check-in-requires
-check-in-requires c κs = search needs
-
-enum-known-c : tie.Need-enum-known-c
-enum-known-c c = search needs
-
 enum-told : tie.Need-enum-told
 enum-told c = search needs
-
-trailer-len-requires : tie.Need-trailer-len-requires
-trailer-len-requires c κs = search needs
 
 sub-t8 : tie.Need-sub-t8
 sub-t8 c = let e = sym (c .before .before .before .before .check-in .ensures) ∙ ap checkAnswer (c .before .before .enum-told .given .1) in let q = holds-in _ _ _ e .0 in omega arith
@@ -32,4 +23,4 @@ returns-2 c = let e = sym (c .before .before .before .before .check-in .ensures)
 pub bounds-spec : {M : Type 1} → statement M
 bounds-spec =
     tie.close
-    (tie.spec check-in-requires enum-known-c enum-told trailer-len-requires sub-t8 returns returns-2)
+    (tie.spec (λ c κs. search needs) (λ c. search needs) enum-told (λ c κs. search needs) sub-t8 returns returns-2)

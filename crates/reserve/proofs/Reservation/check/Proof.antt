@@ -22,9 +22,6 @@ returns-2 c =
     let h : a .self .total < a .start + trailer (a .self .«has_checksum») = omega arith in
     sym (refuse-no _ _ _ (ap not (eq-eqb _ _ (c .before .if1 .left))) ∙ refuse-yes _ _ _ (lt-ltb _ _ h))
 
-trailer-len-requires : tie.Need-trailer-len-requires
-trailer-len-requires c κs = search needs
-
 returns-3 : tie.Need-returns-3
 unfolding holds
 returns-3 c =
@@ -48,4 +45,4 @@ returns-5 c =
 
 pub check-spec : {M : Type 1} → statement M
 check-spec =
-    tie.close (tie.spec returns returns-2 trailer-len-requires returns-3 returns-4 returns-5)
+    tie.close (tie.spec returns returns-2 (λ c κs. search needs) returns-3 returns-4 returns-5)

@@ -8,12 +8,6 @@ use borrow.Author.Needs.{needs}
 use Rattle.reserve.proofs.Reservation.check_in.Statement.{statement}
 use Rattle.reserve.proofs.Reservation.check_in.Tie as tie
 
-check-requires : tie.Need-check-requires
-check-requires c κs = search needs
-
-enum-known-c : tie.Need-enum-known-c
-enum-known-c c = search needs
-
 enum-told : tie.Need-enum-told
 enum-told c = search needs
 
@@ -31,4 +25,4 @@ returns-3 c = let e = sym (c .before .before .before .check .ensures) ∙ ap che
 
 pub check-in-spec : {M : Type 1} → statement M
 check-in-spec =
-    tie.close (tie.spec check-requires enum-known-c enum-told returns returns-2 returns-3)
+    tie.close (tie.spec (λ c κs. search needs) (λ c. search needs) enum-told returns returns-2 returns-3)

@@ -8,17 +8,8 @@ use borrow.Author.Needs.{needs}
 use Rattle.reserve.proofs.Reservation.data_len.Statement.{statement}
 use Rattle.reserve.proofs.Reservation.data_len.Tie as tie
 
-check-requires : tie.Need-check-requires
-check-requires c κs = search needs
-
-enum-known-c : tie.Need-enum-known-c
-enum-known-c c = search needs
-
 enum-told : tie.Need-enum-told
 enum-told c = search needs
-
-trailer-len-requires : tie.Need-trailer-len-requires
-trailer-len-requires c κs = search needs
 
 sub-t7 : tie.Need-sub-t7
 sub-t7 c = let e = sym (c .before .before .before .before .check .ensures) ∙ ap checkAnswer (c .before .before .enum-told .given .1) in let q = holds-is _ _ e in omega arith
@@ -36,10 +27,10 @@ pub data-len-spec : {M : Type 1} → statement M
 data-len-spec =
     tie.close
     (tie.spec
-    check-requires
-    enum-known-c
+    (λ c κs. search needs)
+    (λ c. search needs)
     enum-told
-    trailer-len-requires
+    (λ c κs. search needs)
     sub-t7
     sub-t8
     returns

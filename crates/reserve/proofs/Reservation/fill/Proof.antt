@@ -9,15 +9,6 @@ use borrow.Author.Needs.{needs}
 use Rattle.reserve.proofs.Reservation.fill.Statement.{statement}
 use Rattle.reserve.proofs.Reservation.fill.Tie as tie
 
-bounds-requires : tie.Need-bounds-requires
-bounds-requires c κs = search needs
-
-enum-known-b : tie.Need-enum-known-b
-enum-known-b c = search needs
-
-enum-known-b-2 : tie.Need-enum-known-b-2
-enum-known-b-2 c = search needs
-
 sub-fill : tie.Need-sub-fill
 sub-fill c = let e = sym (c .before .before .before .bounds .ensures) ∙ ap boundsAnswer (c .before .b2 .given .1) in let q = bounds-are _ _ _ _ e in omega arith
 
@@ -27,15 +18,9 @@ part-fill-start c = let e = sym (c .before .before .before .bounds .ensures) ∙
 part-fill-end : tie.Need-part-fill-end
 part-fill-end c = let e = sym (c .before .before .before .bounds .ensures) ∙ ap boundsAnswer (c .before .b2 .given .1) in let q = bounds-are _ _ _ _ e in omega arith
 
-fill-requires : tie.Need-fill-requires
-fill-requires c κs = search needs
-
 returns : tie.Need-returns
 unfolding fillIn
 returns c = let e = sym (c .before .before .before .bounds .ensures) ∙ ap boundsAnswer (c .before .b .given .1) in let w = refuses-then _ _ _ (bounds-refused _ _ _ _ e) in (sym w, sym (fill-by _ _ _ _ _ w))
-
-same-length : tie.Need-same-length
-same-length c = search needs
 
 returns-2 : tie.Need-returns-2
 returns-2 c = let a = c .before .before .before .before .before .before .before .before .before .before .args in let e = sym (c .before .before .before .before .before .before .before .bounds .ensures) ∙ ap boundsAnswer (c .before .before .before .before .before .b2 .given .1) in fill-wrote (a .start) (a .self) (a .buf .now) (a .«data» .now) _ _ _ (bounds-are _ _ _ _ e) (c .before .before .fill .ensures)
@@ -44,13 +29,13 @@ pub fill-spec : {M : Type 1} → statement M
 fill-spec =
     tie.close
     (tie.spec
-    bounds-requires
-    enum-known-b
-    enum-known-b-2
+    (λ c κs. search needs)
+    (λ c. search needs)
+    (λ c. search needs)
     sub-fill
     part-fill-start
     part-fill-end
-    fill-requires
+    (λ c κs. search needs)
     returns
-    same-length
+    (λ c. search needs)
     returns-2)

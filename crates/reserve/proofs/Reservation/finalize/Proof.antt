@@ -11,12 +11,6 @@ use borrow.Author.Needs.{needs}
 use Rattle.reserve.proofs.Reservation.finalize.Statement.{statement}
 use Rattle.reserve.proofs.Reservation.finalize.Tie as tie
 
-check-in-requires : tie.Need-check-in-requires
-check-in-requires c κs = search needs
-
-enum-known-c : tie.Need-enum-known-c
-enum-known-c c = search needs
-
 enum-told : tie.Need-enum-told
 enum-told c = search needs
 
@@ -25,12 +19,6 @@ sub-seal c = let e = sym (c .before .before .before .before .check-in .ensures) 
 
 sub-seal-2 : tie.Need-sub-seal-2
 sub-seal-2 c = let e = sym (c .before .before .before .before .before .check-in .ensures) ∙ ap checkAnswer (c .before .before .before .enum-told .given .1) in let q = holds-in _ _ _ e .0 in omega (arith, ap trailer (c .before .before .if1 .taken))
-
-seal-requires : tie.Need-seal-requires
-seal-requires c κs = search needs
-
-same-length : tie.Need-same-length
-same-length c = search needs
 
 returns : tie.Need-returns
 returns c = let a = c .before .before .before .before .before .before .before .before .before .before .before .args in let e = sym (c .before .before .before .before .before .before .before .before .before .check-in .ensures) ∙ ap checkAnswer (c .before .before .before .before .before .before .before .enum-told .given .1) in finish-sealed (a .start) (a .self) (a .buf .now) _ _ e (c .before .before .before .before .before .before .if1 .taken) (omega arith) (c .before .before .seal .ensures)
@@ -47,13 +35,13 @@ pub finalize-spec : {M : Type 1} → statement M
 finalize-spec =
     tie.close
     (tie.spec
-    check-in-requires
-    enum-known-c
+    (λ c κs. search needs)
+    (λ c. search needs)
     enum-told
     sub-seal
     sub-seal-2
-    seal-requires
-    same-length
+    (λ c κs. search needs)
+    (λ c. search needs)
     returns
     returns-2
     returns-3)

@@ -7,18 +7,6 @@ use borrow.Author.Needs.{needs}
 use Rattle.reserve.proofs.Reservation.part.Statement.{statement}
 use Rattle.reserve.proofs.Reservation.part.Tie as tie
 
-bounds-requires : tie.Need-bounds-requires
-bounds-requires c κs = search needs
-
-enum-told : tie.Need-enum-told
-enum-told c = search needs
-
-slice-aggregate-result : tie.Need-slice-aggregate-result
-slice-aggregate-result c = search needs
-
-enum-known-b : tie.Need-enum-known-b
-enum-known-b c = search needs
-
 sub-result : tie.Need-sub-result
 sub-result c = let e = sym (c .before .before .before .bounds .ensures) ∙ ap boundsAnswer (c .before .b .given .1) in let q = bounds-are _ _ _ _ e in omega arith
 
@@ -38,10 +26,10 @@ pub part-spec : {M : Type 1} → statement M
 part-spec =
     tie.close
     (tie.spec
-    bounds-requires
-    enum-told
-    slice-aggregate-result
-    enum-known-b
+    (λ c κs. search needs)
+    (λ c. search needs)
+    (λ c. search needs)
+    (λ c. search needs)
     sub-result
     part-result-start
     part-result-end

@@ -5,18 +5,6 @@ use borrow.Author.Needs.{needs}
 use Rattle.space_packet.proofs.ByteConversionError.numbers.Statement.{statement}
 use Rattle.space_packet.proofs.ByteConversionError.numbers.Tie as tie
 
-enum-known-self : tie.Need-enum-known-self
-enum-known-self c = search needs
-
-in-numbers-requires : tie.Need-in-numbers-requires
-in-numbers-requires c κs = search needs
-
-enum-known-self-2 : tie.Need-enum-known-self-2
-enum-known-self-2 c = search needs
-
-in-numbers-requires-2 : tie.Need-in-numbers-requires-2
-in-numbers-requires-2 c κs = search needs
-
 returns : tie.Need-returns
 returns c = c .in-numbers .ensures ∙ ap (λ e. inNumbers (bytesNumbers e)) (sym (c .before .before .self .given .1))
 
@@ -27,9 +15,9 @@ pub numbers-spec : {M : Type 1} → statement M
 numbers-spec =
     tie.close
     (tie.spec
-    enum-known-self
-    in-numbers-requires
-    enum-known-self-2
-    in-numbers-requires-2
+    (λ c. search needs)
+    (λ c κs. search needs)
+    (λ c. search needs)
+    (λ c κs. search needs)
     returns
     returns-2)

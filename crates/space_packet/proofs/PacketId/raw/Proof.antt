@@ -6,15 +6,6 @@ use borrow.Author.Needs.{needs}
 use Rattle.space_packet.proofs.PacketId.raw.Statement.{statement}
 use Rattle.space_packet.proofs.PacketId.raw.Tie as tie
 
-raw-value-requires : tie.Need-raw-value-requires
-raw-value-requires c κs = search needs
-
-cast-t : tie.Need-cast-t
-cast-t c = search needs
-
-cast-f : tie.Need-cast-f
-cast-f c = search needs
-
 mul-result : tie.Need-mul-result
 mul-result c = omega (arith, type-le (c .before .before .args .self .«packet_type»))
 
@@ -35,9 +26,9 @@ pub raw-spec : {M : Type 1} → statement M
 raw-spec =
     tie.close
     (tie.spec
-    raw-value-requires
-    cast-t
-    cast-f
+    (λ c κs. search needs)
+    (λ c. search needs)
+    (λ c. search needs)
     mul-result
     mul-result-2
     add-result

@@ -6,15 +6,6 @@ use borrow.Author.Needs.{needs}
 use Rattle.space_packet.proofs.PacketId.set_apid.Statement.{statement}
 use Rattle.space_packet.proofs.PacketId.set_apid.Tie as tie
 
-check-requires : tie.Need-check-requires
-check-requires c κs = search needs
-
-enum-told : tie.Need-enum-told
-enum-told c = search needs
-
-enum-told-2 : tie.Need-enum-told-2
-enum-told-2 c = search needs
-
 returns : tie.Need-returns
 returns c = let k = c .before .before .check in kept-old _ _ _ _ _ (k .ensures) (sym (k .ensures) ∙ ap checkAnswer (c .enum-told2 .given .1))
 
@@ -22,4 +13,4 @@ returns-2 : tie.Need-returns-2
 returns-2 c = let k = c .before .before .check in kept-new _ _ _ _ (k .ensures) (sym (k .ensures) ∙ ap checkAnswer (c .enum-told .given .1))
 
 pub set-apid-spec : {M : Type 1} → statement M
-set-apid-spec = tie.close (tie.spec check-requires enum-told enum-told-2 returns returns-2)
+set-apid-spec = tie.close (tie.spec (λ c κs. search needs) (λ c. search needs) (λ c. search needs) returns returns-2)

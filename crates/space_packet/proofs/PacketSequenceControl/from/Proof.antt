@@ -7,19 +7,10 @@ use borrow.Author.Needs.{needs}
 use Rattle.space_packet.proofs.PacketSequenceControl.from.Statement.{statement}
 use Rattle.space_packet.proofs.PacketSequenceControl.from.Tie as tie
 
-cast-new-with-raw-value : tie.Need-cast-new-with-raw-value
-cast-new-with-raw-value c = search needs
-
-new-with-raw-value-requires : tie.Need-new-with-raw-value-requires
-new-with-raw-value-requires c κs = search needs
-
-new-requires : tie.Need-new-requires
-new-requires c κs = search needs
-
 returns : tie.Need-returns
 unfolding pscOf
 returns c = c .new .ensures ∙ ap (λ f. pscFrom f (record { 0 = c .before .before .args .raw % 16384 })) (c .before .new-with-raw-value .ensures)
 
 pub from-spec : {M : Type 1} → statement M
 from-spec =
-    tie.close (tie.spec cast-new-with-raw-value new-with-raw-value-requires new-requires returns)
+    tie.close (tie.spec (λ c. search needs) (λ c κs. search needs) (λ c κs. search needs) returns)

@@ -6,12 +6,6 @@ use borrow.Author.Needs.{needs}
 use Rattle.space_packet.proofs.PacketSequenceControl.raw.Statement.{statement}
 use Rattle.space_packet.proofs.PacketSequenceControl.raw.Tie as tie
 
-raw-value-requires : tie.Need-raw-value-requires
-raw-value-requires c κs = search needs
-
-cast-f : tie.Need-cast-f
-cast-f c = search needs
-
 mul-result : tie.Need-mul-result
 mul-result c = omega (arith, flags-le (c .before .args .self .«seq_flags»))
 
@@ -23,4 +17,4 @@ unfolding pscRaw
 returns c = omega arith
 
 pub raw-spec : {M : Type 1} → statement M
-raw-spec = tie.close (tie.spec raw-value-requires cast-f mul-result add-result returns)
+raw-spec = tie.close (tie.spec (λ c κs. search needs) (λ c. search needs) mul-result add-result returns)

@@ -5,11 +5,8 @@ use borrow.Author.Needs.{needs}
 use Rattle.space_packet.proofs.PusError.number.Statement.{statement}
 use Rattle.space_packet.proofs.PusError.number.Tie as tie
 
-numbers-requires : tie.Need-numbers-requires
-numbers-requires c κs = search needs
-
 returns : tie.Need-returns
 returns c = ap (λ (n : RefusalNumbers). n .number) (c .numbers .ensures)
 
 pub number-spec : {M : Type 1} → statement M
-number-spec = tie.close (tie.spec numbers-requires returns)
+number-spec = tie.close (tie.spec (λ c κs. search needs) returns)

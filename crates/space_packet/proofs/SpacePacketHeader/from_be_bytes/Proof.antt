@@ -14,24 +14,6 @@ returns : tie.Need-returns
 unfolding headerRead
 returns c = sym (refuse-yes _ _ _ (lt-ltb _ _ (c .if1 .taken)))
 
-word-at-requires : tie.Need-word-at-requires
-word-at-requires c κs = search needs
-
-cast-t9 : tie.Need-cast-t9
-cast-t9 c = search needs
-
-from-requires : tie.Need-from-requires
-from-requires c κs = search needs
-
-word-at-requires-2 : tie.Need-word-at-requires-2
-word-at-requires-2 c κs = search needs
-
-from-requires-2 : tie.Need-from-requires-2
-from-requires-2 c κs = search needs
-
-word-at-requires-3 : tie.Need-word-at-requires-3
-word-at-requires-3 c κs = search needs
-
 returns-2 : tie.Need-returns-2
 unfolding headerRead readHeader
 returns-2 c = let w = c .before .before .before .before .word-at .ensures in let p = c .before .before .before .from .ensures ∙ ap idOf w in let q = c .before .from2 .ensures ∙ ap pscOf (c .before .before .word-at2 .ensures) in (λ i. gives (record { version = w i / 8192; «packet_id» = p i; psc = q i; «data_len» = c .word-at3 .ensures i })) ∙ sym (refuse-no _ _ _ (le-ltb _ _ (c .before .before .before .before .before .if1 .left)))
@@ -41,10 +23,10 @@ from-be-bytes-spec =
     tie.close
     (tie.spec
     returns
-    word-at-requires
-    cast-t9
-    from-requires
-    word-at-requires-2
-    from-requires-2
-    word-at-requires-3
+    (λ c κs. search needs)
+    (λ c. search needs)
+    (λ c κs. search needs)
+    (λ c κs. search needs)
+    (λ c κs. search needs)
+    (λ c κs. search needs)
     returns-2)

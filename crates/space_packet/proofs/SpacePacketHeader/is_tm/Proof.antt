@@ -7,14 +7,8 @@ use borrow.Author.Needs.{needs}
 use Rattle.space_packet.proofs.SpacePacketHeader.is_tm.Statement.{statement}
 use Rattle.space_packet.proofs.SpacePacketHeader.is_tm.Tie as tie
 
-packet-type-requires : tie.Need-packet-type-requires
-packet-type-requires c κs = search needs
-
-raw-value-requires : tie.Need-raw-value-requires
-raw-value-requires c κs = search needs
-
 returns : tie.Need-returns
 returns c = ap (λ (n : ℕ). eqb n 0) (c .raw-value .ensures ∙ ap typeNumber (c .before .packet-type .ensures))
 
 pub is-tm-spec : {M : Type 1} → statement M
-is-tm-spec = tie.close (tie.spec packet-type-requires raw-value-requires returns)
+is-tm-spec = tie.close (tie.spec (λ c κs. search needs) (λ c κs. search needs) returns)

@@ -8,21 +8,12 @@ use Rattle.space_packet.proofs.SpacePacketHeader.new_from_composite_fie
 }
 use Rattle.space_packet.proofs.SpacePacketHeader.new_from_composite_fields.Tie as tie
 
-in-range-requires : tie.Need-in-range-requires
-in-range-requires c κs = search needs
-
-enum-known-c : tie.Need-enum-known-c
-enum-known-c c = search needs
-
 returns : tie.Need-returns
 returns c = sym (refuses-then _ _ _ (sym (c .before .before .before .in-range .ensures) ∙ ap checkAnswer (c .before .c .given .1)))
-
-enum-told : tie.Need-enum-told
-enum-told c = search needs
 
 returns-2 : tie.Need-returns-2
 returns-2 c = sym (gives-then _ _ _ (sym (c .before .before .in-range .ensures) ∙ ap checkAnswer (c .enum-told .given .1)))
 
 pub new-from-composite-fields-spec : {M : Type 1} → statement M
 new-from-composite-fields-spec =
-    tie.close (tie.spec in-range-requires enum-known-c returns enum-told returns-2)
+    tie.close (tie.spec (λ c κs. search needs) (λ c. search needs) returns (λ c. search needs) returns-2)

@@ -11,26 +11,8 @@ use borrow.Author.Needs.{needs}
 use Rattle.space_packet.proofs.SpacePacketHeader.put.Statement.{statement}
 use Rattle.space_packet.proofs.SpacePacketHeader.put.Tie as tie
 
-cast-w0 : tie.Need-cast-w0
-cast-w0 c = search needs
-
-mul-w0 : tie.Need-mul-w0
-mul-w0 c = search needs
-
-packet-id-raw-requires : tie.Need-packet-id-raw-requires
-packet-id-raw-requires c κs = search needs
-
 add-w0 : tie.Need-add-w0
 add-w0 c = omega (arith, id-raw-lt (c .before .before .before .args .self .«packet_id»))
-
-psc-raw-requires : tie.Need-psc-raw-requires
-psc-raw-requires c κs = search needs
-
-put-words-requires : tie.Need-put-words-requires
-put-words-requires c κs = search needs
-
-same-length : tie.Need-same-length
-same-length c = search needs
 
 returns : tie.Need-returns
 unfolding headerOctets
@@ -40,11 +22,11 @@ pub put-spec : {M : Type 1} → statement M
 put-spec =
     tie.close
     (tie.spec
-    cast-w0
-    mul-w0
-    packet-id-raw-requires
+    (λ c. search needs)
+    (λ c. search needs)
+    (λ c κs. search needs)
     add-w0
-    psc-raw-requires
-    put-words-requires
-    same-length
+    (λ c κs. search needs)
+    (λ c κs. search needs)
+    (λ c. search needs)
     returns)

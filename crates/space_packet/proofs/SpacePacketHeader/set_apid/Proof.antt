@@ -6,14 +6,8 @@ use borrow.Author.Needs.{needs}
 use Rattle.space_packet.proofs.SpacePacketHeader.set_apid.Statement.{statement}
 use Rattle.space_packet.proofs.SpacePacketHeader.set_apid.Tie as tie
 
-set-apid-requires : tie.Need-set-apid-requires
-set-apid-requires c κs = search needs
-
-with-packet-id-requires : tie.Need-with-packet-id-requires
-with-packet-id-requires c κs = search needs
-
 returns : tie.Need-returns
 returns c = let h = c .before .before .before .before .args .self in let s = c .before .before .set-apid in ap (λ g. headerKept (record { header = g; result = s .result .result })) (c .with-packet-id .ensures) ∙ ap (λ k. record { passed = k .passed; kept = withId h (k .kept) }) (s .ensures) ∙ set-in (withId h) _ _ _
 
 pub set-apid-spec : {M : Type 1} → statement M
-set-apid-spec = tie.close (tie.spec set-apid-requires with-packet-id-requires returns)
+set-apid-spec = tie.close (tie.spec (λ c κs. search needs) (λ c κs. search needs) returns)

@@ -5,22 +5,10 @@ use borrow.Author.Needs.{needs}
 use Rattle.space_packet.proofs.SpacePacketHeader.set_packet_type.Statement.{statement}
 use Rattle.space_packet.proofs.SpacePacketHeader.set_packet_type.Tie as tie
 
-sec-header-flag-requires : tie.Need-sec-header-flag-requires
-sec-header-flag-requires c κs = search needs
-
-apid-requires : tie.Need-apid-requires
-apid-requires c κs = search needs
-
-new-requires : tie.Need-new-requires
-new-requires c κs = search needs
-
-with-packet-id-requires : tie.Need-with-packet-id-requires
-with-packet-id-requires c κs = search needs
-
 returns : tie.Need-returns
 returns c = let a = c .before .before .before .before .args in c .with-packet-id .ensures ∙ ap (withId (a .self)) (c .before .new .ensures ∙ (λ i. idFrom (a .packet-type) (c .before .before .before .sec-header-flag .ensures i) (c .before .before .apid .ensures i)))
 
 pub set-packet-type-spec : {M : Type 1} → statement M
 set-packet-type-spec =
     tie.close
-    (tie.spec sec-header-flag-requires apid-requires new-requires with-packet-id-requires returns)
+    (tie.spec (λ c κs. search needs) (λ c κs. search needs) (λ c κs. search needs) (λ c κs. search needs) returns)

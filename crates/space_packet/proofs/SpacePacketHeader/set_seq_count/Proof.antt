@@ -7,26 +7,8 @@ use borrow.Author.Needs.{needs}
 use Rattle.space_packet.proofs.SpacePacketHeader.set_seq_count.Statement.{statement}
 use Rattle.space_packet.proofs.SpacePacketHeader.set_seq_count.Tie as tie
 
-check-requires : tie.Need-check-requires
-check-requires c κs = search needs
-
-enum-told : tie.Need-enum-told
-enum-told c = search needs
-
-enum-told-2 : tie.Need-enum-told-2
-enum-told-2 c = search needs
-
 returns : tie.Need-returns
 returns c = let k = c .before .before .check in kept-old _ _ _ _ _ (k .ensures) (sym (k .ensures) ∙ ap checkAnswer (c .enum-told2 .given .1))
-
-sequence-flags-requires : tie.Need-sequence-flags-requires
-sequence-flags-requires c κs = search needs
-
-new-requires : tie.Need-new-requires
-new-requires c κs = search needs
-
-with-psc-requires : tie.Need-with-psc-requires
-with-psc-requires c κs = search needs
 
 returns-2 : tie.Need-returns-2
 returns-2 c = let k = c .before .before .before .before .before .check in let a = c .before .before .before .before .before .before .args in ap (λ h. record { passed = checkAnswer (k .result); kept = h }) (c .with-psc .ensures ∙ ap (withPsc (a .self)) (c .before .new .ensures ∙ ap (λ f. pscFrom f (a .seq-count)) (c .before .before .sequence-flags .ensures))) ∙ kept-new _ _ _ _ (k .ensures) (sym (k .ensures) ∙ ap checkAnswer (c .before .before .before .enum-told .given .1))
@@ -35,11 +17,11 @@ pub set-seq-count-spec : {M : Type 1} → statement M
 set-seq-count-spec =
     tie.close
     (tie.spec
-    check-requires
-    enum-told
-    enum-told-2
+    (λ c κs. search needs)
+    (λ c. search needs)
+    (λ c. search needs)
     returns
-    sequence-flags-requires
-    new-requires
-    with-psc-requires
+    (λ c κs. search needs)
+    (λ c κs. search needs)
+    (λ c κs. search needs)
     returns-2)

@@ -10,12 +10,6 @@ use borrow.Author.Needs.{needs}
 use Rattle.space_packet.proofs.SpacePacketHeader.write_to_slice.Statement.{statement}
 use Rattle.space_packet.proofs.SpacePacketHeader.write_to_slice.Tie as tie
 
-check-requires : tie.Need-check-requires
-check-requires c κs = search needs
-
-enum-known-c : tie.Need-enum-known-c
-enum-known-c c = search needs
-
 returns : tie.Need-returns
 unfolding headerWrite
 returns c = let e = sym (c .before .before .before .check .ensures) ∙ ap checkAnswer (c .before .c .given .1) in let w = refuses-then _ _ _ e in record { answered = sym w; left = sym (left-refused _ _ _ _ w) }
@@ -30,9 +24,6 @@ returns-2 c = let e = sym (c .before .before .before .check .ensures) ∙ ap che
 put-requires : tie.Need-put-requires
 put-requires c κs = let e = sym (c .before .before .before .before .check .ensures) ∙ ap checkAnswer (c .before .before .enum-told .given .1) in (check-in-range _ e, omega arith)
 
-same-length : tie.Need-same-length
-same-length c = search needs
-
 returns-3 : tie.Need-returns-3
 unfolding headerWrite
 returns-3 c = let e = sym (c .before .before .before .before .before .before .before .check .ensures) ∙ ap checkAnswer (c .before .before .before .before .before .enum-told .given .1) in let w = gives-then _ _ _ e ∙ refuse-no _ _ _ (le-ltb _ _ (c .before .before .before .before .if1 .left)) in record { answered = sym w; left = c .before .before .put .ensures ∙ sym (left-written _ _ _ _ w) }
@@ -41,11 +32,11 @@ pub write-to-slice-spec : {M : Type 1} → statement M
 write-to-slice-spec =
     tie.close
     (tie.spec
-    check-requires
-    enum-known-c
+    (λ c κs. search needs)
+    (λ c. search needs)
     returns
     enum-told
     returns-2
     put-requires
-    same-length
+    (λ c. search needs)
     returns-3)

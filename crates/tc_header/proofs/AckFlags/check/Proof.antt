@@ -6,9 +6,6 @@ use borrow.Author.Needs.{needs}
 use Rattle.tc_header.proofs.AckFlags.check.Statement.{statement}
 use Rattle.tc_header.proofs.AckFlags.check.Tie as tie
 
-cast-t3 : tie.Need-cast-t3
-cast-t3 c = search needs
-
 returns : tie.Need-returns
 returns c = sym (refuse-yes _ _ _ (lt-ltb _ _ (c .before .if1 .taken)))
 
@@ -16,4 +13,4 @@ returns-2 : tie.Need-returns-2
 returns-2 c = sym (refuse-no _ _ _ (le-ltb _ _ (c .if1 .left)))
 
 pub check-spec : {M : Type 1} → statement M
-check-spec = tie.close (tie.spec cast-t3 returns returns-2)
+check-spec = tie.close (tie.spec (λ c. search needs) returns returns-2)

@@ -7,30 +7,18 @@ use borrow.Author.Needs.{needs}
 use Rattle.tc_header.proofs.PusTcSecondaryHeader.check.Statement.{statement}
 use Rattle.tc_header.proofs.PusTcSecondaryHeader.check.Tie as tie
 
-check-widths-requires : tie.Need-check-widths-requires
-check-widths-requires c κs = search needs
-
 enum-told : tie.Need-enum-told
 enum-told c = search needs
-
-enum-told-2 : tie.Need-enum-told-2
-enum-told-2 c = search needs
 
 returns : tie.Need-returns
 returns c =
     let k = ap checkAnswer (c .enum-told2 .given .1) in
     k ∙ sym (checks-refused _ _ _ _ (sym (c .before .before .check-widths .ensures) ∙ k))
 
-sec-header-len-requires : tie.Need-sec-header-len-requires
-sec-header-len-requires c κs = search needs
-
 returns-2 : tie.Need-returns-2
 returns-2 c =
     let e = sym (c .before .before .before .before .check-widths .ensures) ∙ ap checkAnswer (c .before .before .enum-told .given .1) in
     sym (checks-no-room _ _ _ _ e (sym (no-room _ _ _ (c .before .sec-header-len .ensures) (c .if1 .taken))))
-
-check-version-in-requires : tie.Need-check-version-in-requires
-check-version-in-requires c κs = search needs
 
 returns-3 : tie.Need-returns-3
 returns-3 c =
@@ -42,11 +30,11 @@ pub check-spec : {M : Type 1} → statement M
 check-spec =
     tie.close
     (tie.spec
-    check-widths-requires
+    (λ c κs. search needs)
     enum-told
-    enum-told-2
+    (λ c. search needs)
     returns
-    sec-header-len-requires
+    (λ c κs. search needs)
     returns-2
-    check-version-in-requires
+    (λ c κs. search needs)
     returns-3)

@@ -9,12 +9,6 @@ use borrow.Author.Needs.{needs}
 use Rattle.tc_header.proofs.PusTcSecondaryHeader.from_be_bytes_in.Statement.{statement}
 use Rattle.tc_header.proofs.PusTcSecondaryHeader.from_be_bytes_in.Tie as tie
 
-check-requires : tie.Need-check-requires
-check-requires c κs = search needs
-
-enum-known-c : tie.Need-enum-known-c
-enum-known-c c = search needs
-
 returns : tie.Need-returns
 unfolding secReadIn
 returns c = sym (refuses-then _ _ _ (sym (c .before .before .before .check .ensures) ∙ ap checkAnswer (c .before .c .given .1)))
@@ -22,29 +16,11 @@ returns c = sym (refuses-then _ _ _ (sym (c .before .before .before .check .ensu
 enum-told : tie.Need-enum-told
 enum-told c = search needs
 
-sec-header-len-requires : tie.Need-sec-header-len-requires
-sec-header-len-requires c κs = search needs
-
 returns-2 : tie.Need-returns-2
 unfolding secReadIn
 returns-2 c =
     let e = sym (c .before .before .before .before .check .ensures) ∙ ap checkAnswer (c .before .before .enum-told .given .1) in
     sym (gives-then _ _ _ e ∙ sym (too-few _ _ _ _ (c .before .sec-header-len .ensures) (c .if1 .taken)))
-
-shared-slice-read-ack : tie.Need-shared-slice-read-ack
-shared-slice-read-ack c = search needs
-
-shared-slice-read-new : tie.Need-shared-slice-read-new
-shared-slice-read-new c = search needs
-
-shared-slice-read-new-2 : tie.Need-shared-slice-read-new-2
-shared-slice-read-new-2 c = search needs
-
-new-requires : tie.Need-new-requires
-new-requires c κs = search needs
-
-source-at-requires : tie.Need-source-at-requires
-source-at-requires c κs = search needs
 
 returns-3 : tie.Need-returns-3
 unfolding secReadIn tcOf
@@ -60,15 +36,15 @@ pub from-be-bytes-in-spec : {M : Type 1} → statement M
 from-be-bytes-in-spec =
     tie.close
     (tie.spec
-    check-requires
-    enum-known-c
+    (λ c κs. search needs)
+    (λ c. search needs)
     returns
     enum-told
-    sec-header-len-requires
+    (λ c κs. search needs)
     returns-2
-    shared-slice-read-ack
-    shared-slice-read-new
-    shared-slice-read-new-2
-    new-requires
-    source-at-requires
+    (λ c. search needs)
+    (λ c. search needs)
+    (λ c. search needs)
+    (λ c κs. search needs)
+    (λ c κs. search needs)
     returns-3)

@@ -6,20 +6,11 @@ use borrow.Author.Needs.{needs}
 use Rattle.tc_header.proofs.PusTcSecondaryHeader.new_in.Statement.{statement}
 use Rattle.tc_header.proofs.PusTcSecondaryHeader.new_in.Tie as tie
 
-check-widths-requires : tie.Need-check-widths-requires
-check-widths-requires c κs = search needs
-
-enum-known-c : tie.Need-enum-known-c
-enum-known-c c = search needs
-
 returns : tie.Need-returns
 returns c = sym (refuses-then _ _ _ (sym (c .before .before .before .check-widths .ensures) ∙ ap checkAnswer (c .before .c .given .1)))
-
-enum-told : tie.Need-enum-told
-enum-told c = search needs
 
 returns-2 : tie.Need-returns-2
 returns-2 c = sym (gives-then _ _ _ (sym (c .before .before .check-widths .ensures) ∙ ap checkAnswer (c .enum-told .given .1)))
 
 pub new-in-spec : {M : Type 1} → statement M
-new-in-spec = tie.close (tie.spec check-widths-requires enum-known-c returns enum-told returns-2)
+new-in-spec = tie.close (tie.spec (λ c κs. search needs) (λ c. search needs) returns (λ c. search needs) returns-2)

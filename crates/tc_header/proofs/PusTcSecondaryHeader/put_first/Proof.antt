@@ -10,26 +10,14 @@ use borrow.Author.Needs.{needs}
 use Rattle.tc_header.proofs.PusTcSecondaryHeader.put_first.Statement.{statement}
 use Rattle.tc_header.proofs.PusTcSecondaryHeader.put_first.Tie as tie
 
-raw-value-requires : tie.Need-raw-value-requires
-raw-value-requires c κs = search needs
-
 mul-buf : tie.Need-mul-buf
 mul-buf c = omega (arith, version-le (c .before .before .args .self .version), c .raw-value .ensures)
 
 add-buf : tie.Need-add-buf
 add-buf c = omega (arith, version-le (c .before .before .before .args .self .version), c .before .raw-value .ensures)
 
-slice-write-buf : tie.Need-slice-write-buf
-slice-write-buf c = search needs
-
 slice-write-buf-2 : tie.Need-slice-write-buf-2
 slice-write-buf-2 c = simp length-set (omega arith)
-
-slice-write-buf-3 : tie.Need-slice-write-buf-3
-slice-write-buf-3 c = search needs
-
-same-length : tie.Need-same-length
-same-length c = search needs
 
 returns : tie.Need-returns
 returns c = let a = c .before .before .before .args in
@@ -41,11 +29,11 @@ pub put-first-spec : {M : Type 1} → statement M
 put-first-spec =
     tie.close
     (tie.spec
-    raw-value-requires
+    (λ c κs. search needs)
     mul-buf
     add-buf
-    slice-write-buf
+    (λ c. search needs)
     slice-write-buf-2
-    slice-write-buf-3
-    same-length
+    (λ c. search needs)
+    (λ c. search needs)
     returns)

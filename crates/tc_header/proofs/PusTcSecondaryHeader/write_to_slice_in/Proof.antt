@@ -8,12 +8,6 @@ use borrow.Author.Needs.{needs}
 use Rattle.tc_header.proofs.PusTcSecondaryHeader.write_to_slice_in.Statement.{statement}
 use Rattle.tc_header.proofs.PusTcSecondaryHeader.write_to_slice_in.Tie as tie
 
-check-requires : tie.Need-check-requires
-check-requires c κs = search needs
-
-enum-known-c : tie.Need-enum-known-c
-enum-known-c c = search needs
-
 returns : tie.Need-returns
 unfolding secWriteIn
 returns c = let w = refuses-then _ _ _ (sym (c .before .before .before .check .ensures) ∙ ap checkAnswer (c .before .c .given .1)) in
@@ -26,12 +20,6 @@ put-requires : tie.Need-put-requires
 put-requires c κs = let a = c .before .before .before .before .before .args in
     asked-put (a .form) (a .self) _ (sym (c .before .before .before .check .ensures) ∙ ap checkAnswer (c .before .enum-told .given .1))
 
-sec-header-len-requires : tie.Need-sec-header-len-requires
-sec-header-len-requires c κs = search needs
-
-same-length : tie.Need-same-length
-same-length c = search needs
-
 returns-2 : tie.Need-returns-2
 unfolding secWriteIn
 returns-2 c = let e = sym (c .before .before .before .before .before .before .before .check .ensures) ∙ ap checkAnswer (c .before .before .before .before .before .enum-told .given .1) in
@@ -42,11 +30,11 @@ pub write-to-slice-in-spec : {M : Type 1} → statement M
 write-to-slice-in-spec =
     tie.close
     (tie.spec
-    check-requires
-    enum-known-c
+    (λ c κs. search needs)
+    (λ c. search needs)
     returns
     enum-told
     put-requires
-    sec-header-len-requires
-    same-length
+    (λ c κs. search needs)
+    (λ c. search needs)
     returns-2)

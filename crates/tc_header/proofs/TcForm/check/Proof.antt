@@ -6,14 +6,8 @@ use borrow.Author.Needs.{needs}
 use Rattle.tc_header.proofs.TcForm.check.Statement.{statement}
 use Rattle.tc_header.proofs.TcForm.check.Tie as tie
 
-is-width-requires : tie.Need-is-width-requires
-is-width-requires c κs = search needs
-
 returns : tie.Need-returns
 returns c = sym (width-refused _ (sym (c .before .is-width .ensures) ∙ not-true (c .before .is-width .result) (c .if1 .taken)))
-
-cast-if2 : tie.Need-cast-if2
-cast-if2 c = search needs
 
 returns-2 : tie.Need-returns-2
 returns-2 c = sym (spare-refused _ (sym (c .before .before .before .is-width .ensures) ∙ not-false (c .before .before .before .is-width .result) (c .before .before .if1 .left)) (c .if2 .taken))
@@ -22,4 +16,4 @@ returns-3 : tie.Need-returns-3
 returns-3 c = sym (form-passes _ (sym (c .before .before .before .is-width .ensures) ∙ not-false (c .before .before .before .is-width .result) (c .before .before .if1 .left)) (c .if2 .left))
 
 pub check-spec : {M : Type 1} → statement M
-check-spec = tie.close (tie.spec is-width-requires returns cast-if2 returns-2 returns-3)
+check-spec = tie.close (tie.spec (λ c κs. search needs) returns (λ c. search needs) returns-2 returns-3)

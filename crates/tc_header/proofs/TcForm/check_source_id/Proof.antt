@@ -7,12 +7,6 @@ use Rattle.tc_header.proofs.TcForm.check_source_id.Tie as tie
 returns : tie.Need-returns
 returns c = source-wide _ _ (c .if1 .taken)
 
-cast-if2 : tie.Need-cast-if2
-cast-if2 c = search needs
-
-mul-if2 : tie.Need-mul-if2
-mul-if2 c = search needs
-
 returns-2 : tie.Need-returns-2
 returns-2 c = source-over _ _ (c .before .if1 .left) (c .if2 .taken)
 
@@ -20,4 +14,4 @@ returns-3 : tie.Need-returns-3
 returns-3 c = source-in _ _ (c .before .if1 .left) (c .if2 .left)
 
 pub check-source-id-spec : {M : Type 1} → statement M
-check-source-id-spec = tie.close (tie.spec returns cast-if2 mul-if2 returns-2 returns-3)
+check-source-id-spec = tie.close (tie.spec returns (λ c. search needs) (λ c. search needs) returns-2 returns-3)

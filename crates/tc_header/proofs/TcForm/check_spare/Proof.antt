@@ -7,12 +7,6 @@ use borrow.Author.Needs.{needs}
 use Rattle.tc_header.proofs.TcForm.check_spare.Statement.{statement}
 use Rattle.tc_header.proofs.TcForm.check_spare.Tie as tie
 
-spare-part-requires : tie.Need-spare-part-requires
-spare-part-requires c κs = search needs
-
-all-zero-requires : tie.Need-all-zero-requires
-all-zero-requires c κs = search needs
-
 returns : tie.Need-returns
 returns c =
     let a = c .before .before .before .before .args in
@@ -27,4 +21,4 @@ returns-2 c =
 
 pub check-spare-spec : {M : Type 1} → statement M
 check-spare-spec =
-    tie.close (tie.spec spare-part-requires all-zero-requires returns returns-2)
+    tie.close (tie.spec (λ c κs. search needs) (λ c κs. search needs) returns returns-2)

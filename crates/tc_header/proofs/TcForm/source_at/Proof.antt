@@ -8,14 +8,8 @@ use borrow.Author.Needs.{needs}
 use Rattle.tc_header.proofs.TcForm.source_at.Statement.{statement}
 use Rattle.tc_header.proofs.TcForm.source_at.Tie as tie
 
-word-at-requires : tie.Need-word-at-requires
-word-at-requires c κs = search needs
-
 returns : tie.Need-returns
 returns c = c .word-at .ensures ∙ wide-at _ _ (c .before .if1 .taken)
-
-shared-slice-read-result : tie.Need-shared-slice-read-result
-shared-slice-read-result c = search needs
 
 cast-result : tie.Need-cast-result
 cast-result c = omega (arith, c .shared-slice-known2 .given 3)
@@ -29,4 +23,4 @@ returns-3 c = let z : sourceLen (c .before .before .before .before .args .self) 
 pub source-at-spec : {M : Type 1} → statement M
 source-at-spec =
     tie.close
-    (tie.spec word-at-requires returns shared-slice-read-result cast-result returns-2 returns-3)
+    (tie.spec (λ c κs. search needs) returns (λ c. search needs) cast-result returns-2 returns-3)

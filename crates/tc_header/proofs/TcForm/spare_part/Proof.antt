@@ -6,19 +6,10 @@ use borrow.Author.Needs.{needs}
 use Rattle.tc_header.proofs.TcForm.spare_part.Statement.{statement}
 use Rattle.tc_header.proofs.TcForm.spare_part.Tie as tie
 
-spare-at-requires : tie.Need-spare-at-requires
-spare-at-requires c κs = search needs
-
-cast-part-at : tie.Need-cast-part-at
-cast-part-at c = search needs
-
-part-at-requires : tie.Need-part-at-requires
-part-at-requires c κs = search needs
-
 returns : tie.Need-returns
 returns c =
     let a = c .before .before .before .before .args in
     c .part-at .ensures ∙ ap (λ (k : ℕ). take (a .self .«spare_len») (drop k (a .second .now))) (c .before .before .spare-at .ensures)
 
 pub spare-part-spec : {M : Type 1} → statement M
-spare-part-spec = tie.close (tie.spec spare-at-requires cast-part-at part-at-requires returns)
+spare-part-spec = tie.close (tie.spec (λ c κs. search needs) (λ c. search needs) (λ c κs. search needs) returns)

@@ -8,21 +8,6 @@ use borrow.Author.Needs.{needs}
 use Rattle.tc_read.proofs.PusTcRecord.new_no_checksum_verification_in.Statement.{statement}
 use Rattle.tc_read.proofs.PusTcRecord.new_no_checksum_verification_in.Tie as tie
 
-check-requires : tie.Need-check-requires
-check-requires c κs = search needs
-
-min-len-without-app-data-requires : tie.Need-min-len-without-app-data-requires
-min-len-without-app-data-requires c κs = search needs
-
-frame-after-requires : tie.Need-frame-after-requires
-frame-after-requires c κs = search needs
-
-enum-known-f : tie.Need-enum-known-f
-enum-known-f c = search needs
-
-enum-known-f-2 : tie.Need-enum-known-f-2
-enum-known-f-2 c = search needs
-
 of-requires : tie.Need-of-requires
 of-requires c κs =
     let k = c .before .before .before in
@@ -47,11 +32,11 @@ pub new-no-checksum-verification-in-spec : {M : Type 1} → statement M
 new-no-checksum-verification-in-spec =
     tie.close
     (tie.spec
-    check-requires
-    min-len-without-app-data-requires
-    frame-after-requires
-    enum-known-f
-    enum-known-f-2
+    (λ c κs. search needs)
+    (λ c κs. search needs)
+    (λ c κs. search needs)
+    (λ c. search needs)
+    (λ c. search needs)
     of-requires
     returns
     returns-2)

@@ -3,14 +3,8 @@ use borrow.Author.Needs.{needs}
 use Rattle.tc_reserved.proofs.PusTcCreatorWithReservedAppData.app_data.Statement.{statement}
 use Rattle.tc_reserved.proofs.PusTcCreatorWithReservedAppData.app_data.Tie as tie
 
-min-len-without-app-data-requires : tie.Need-min-len-without-app-data-requires
-min-len-without-app-data-requires c κs = search needs
-
-part-requires : tie.Need-part-requires
-part-requires c κs = search needs
-
 returns : tie.Need-returns
 returns c = rw (c .before .min-len-without-app-data .ensures) at (c .part .ensures)
 
 pub app-data-spec : {M : Type 1} → statement M
-app-data-spec = tie.close (tie.spec min-len-without-app-data-requires part-requires returns)
+app-data-spec = tie.close (tie.spec (λ c κs. search needs) (λ c κs. search needs) returns)

@@ -3,15 +3,9 @@ use borrow.Author.Needs.{needs}
 use Rattle.tc_reserved.proofs.PusTcCreatorWithReservedAppData.finalize_no_checksum.Statement.{statement}
 use Rattle.tc_reserved.proofs.PusTcCreatorWithReservedAppData.finalize_no_checksum.Tie as tie
 
-min-len-without-app-data-requires : tie.Need-min-len-without-app-data-requires
-min-len-without-app-data-requires c κs = search needs
-
-finalize-no-checksum-requires : tie.Need-finalize-no-checksum-requires
-finalize-no-checksum-requires c κs = search needs
-
 returns : tie.Need-returns
 returns c = rw (c .before .min-len-without-app-data .ensures) at (c .finalize-no-checksum .ensures)
 
 pub finalize-no-checksum-spec : {M : Type 1} → statement M
 finalize-no-checksum-spec =
-    tie.close (tie.spec min-len-without-app-data-requires finalize-no-checksum-requires returns)
+    tie.close (tie.spec (λ c κs. search needs) (λ c κs. search needs) returns)

@@ -12,36 +12,6 @@ use borrow.Author.Needs.{needs}
 use Rattle.tc_reserved.proofs.PusTcCreatorWithReservedAppData.new_in.Statement.{statement}
 use Rattle.tc_reserved.proofs.PusTcCreatorWithReservedAppData.new_in.Tie as tie
 
-as-type-requires : tie.Need-as-type-requires
-as-type-requires c κs = search needs
-
-slice-aggregate-write-to-slice-in : tie.Need-slice-aggregate-write-to-slice-in
-slice-aggregate-write-to-slice-in c = search needs
-
-write-to-slice-in-requires : tie.Need-write-to-slice-in-requires
-write-to-slice-in-requires c κs = search needs
-
-asks-requires : tie.Need-asks-requires
-asks-requires c κs = search needs
-
-slice-aggregate-front : tie.Need-slice-aggregate-front
-slice-aggregate-front c = search needs
-
-sec-header-len-requires : tie.Need-sec-header-len-requires
-sec-header-len-requires c κs = search needs
-
-front-requires : tie.Need-front-requires
-front-requires c κs = search needs
-
-reserve-requires : tie.Need-reserve-requires
-reserve-requires c κs = search needs
-
-reservation-requires : tie.Need-reservation-requires
-reservation-requires c κs = search needs
-
-same-length : tie.Need-same-length
-same-length c = search needs
-
 returns : tie.Need-returns
 returns c =
     let f = c .before .before .before .before .before in
@@ -65,14 +35,14 @@ pub new-in-spec : {M : Type 1} → statement M
 new-in-spec =
     tie.close
     (tie.spec
-    as-type-requires
-    slice-aggregate-write-to-slice-in
-    write-to-slice-in-requires
-    asks-requires
-    slice-aggregate-front
-    sec-header-len-requires
-    front-requires
-    reserve-requires
-    reservation-requires
-    same-length
+    (λ c κs. search needs)
+    (λ c. search needs)
+    (λ c κs. search needs)
+    (λ c κs. search needs)
+    (λ c. search needs)
+    (λ c κs. search needs)
+    (λ c κs. search needs)
+    (λ c κs. search needs)
+    (λ c κs. search needs)
+    (λ c. search needs)
     returns)

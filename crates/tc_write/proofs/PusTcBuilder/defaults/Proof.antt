@@ -10,21 +10,6 @@ use borrow.Author.Needs.{needs}
 use Rattle.tc_write.proofs.PusTcBuilder.defaults.Statement.{statement}
 use Rattle.tc_write.proofs.PusTcBuilder.defaults.Tie as tie
 
-default-requires : tie.Need-default-requires
-default-requires c κs = search needs
-
-as-type-requires : tie.Need-as-type-requires
-as-type-requires c κs = search needs
-
-new-requires : tie.Need-new-requires
-new-requires c κs = search needs
-
-asking-for-requires : tie.Need-asking-for-requires
-asking-for-requires c κs = search needs
-
-simple-requires : tie.Need-simple-requires
-simple-requires c κs = search needs
-
 returns : tie.Need-returns
 returns c =
     let f = c .before .before .before .before .before .args .form in
@@ -35,4 +20,4 @@ returns c =
 pub defaults-spec : {M : Type 1} → statement M
 defaults-spec =
     tie.close
-    (tie.spec default-requires as-type-requires new-requires asking-for-requires simple-requires returns)
+    (tie.spec (λ c κs. search needs) (λ c κs. search needs) (λ c κs. search needs) (λ c κs. search needs) (λ c κs. search needs) returns)

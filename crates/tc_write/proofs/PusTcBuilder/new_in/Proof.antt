@@ -6,20 +6,8 @@ use borrow.Author.Needs.{needs}
 use Rattle.tc_write.proofs.PusTcBuilder.new_in.Statement.{statement}
 use Rattle.tc_write.proofs.PusTcBuilder.new_in.Tie as tie
 
-check-requires : tie.Need-check-requires
-check-requires c κs = search needs
-
-enum-known-c : tie.Need-enum-known-c
-enum-known-c c = search needs
-
 returns : tie.Need-returns
 returns c = sym (refuses-then _ _ _ (sym (c .before .before .before .check .ensures) ∙ ap checkAnswer (c .before .c .given .1)))
-
-enum-told : tie.Need-enum-told
-enum-told c = search needs
-
-defaults-requires : tie.Need-defaults-requires
-defaults-requires c κs = search needs
 
 returns-2 : tie.Need-returns-2
 returns-2 c =
@@ -28,4 +16,4 @@ returns-2 c =
 
 pub new-in-spec : {M : Type 1} → statement M
 new-in-spec =
-    tie.close (tie.spec check-requires enum-known-c returns enum-told defaults-requires returns-2)
+    tie.close (tie.spec (λ c κs. search needs) (λ c. search needs) returns (λ c. search needs) (λ c κs. search needs) returns-2)

@@ -6,14 +6,8 @@ use borrow.Author.Needs.{needs}
 use Rattle.tc_write.proofs.PusTcBuilder.with_ack_flags.Statement.{statement}
 use Rattle.tc_write.proofs.PusTcBuilder.with_ack_flags.Tie as tie
 
-set-ack-flags-requires : tie.Need-set-ack-flags-requires
-set-ack-flags-requires c κs = search needs
-
-builder-set-requires : tie.Need-builder-set-requires
-builder-set-requires c κs = search needs
-
 returns : tie.Need-returns
 returns c = c .builder-set .ensures ∙ edit-in builderOf _ _ _ _ (c .before .set-ack-flags .ensures)
 
 pub with-ack-flags-spec : {M : Type 1} → statement M
-with-ack-flags-spec = tie.close (tie.spec set-ack-flags-requires builder-set-requires returns)
+with-ack-flags-spec = tie.close (tie.spec (λ c κs. search needs) (λ c κs. search needs) returns)

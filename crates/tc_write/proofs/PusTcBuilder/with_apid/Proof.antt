@@ -6,14 +6,8 @@ use borrow.Author.Needs.{needs}
 use Rattle.tc_write.proofs.PusTcBuilder.with_apid.Statement.{statement}
 use Rattle.tc_write.proofs.PusTcBuilder.with_apid.Tie as tie
 
-set-apid-requires : tie.Need-set-apid-requires
-set-apid-requires c κs = search needs
-
-builder-set-requires : tie.Need-builder-set-requires
-builder-set-requires c κs = search needs
-
 returns : tie.Need-returns
 returns c = c .builder-set .ensures ∙ edit-in builderOf _ _ _ _ (c .before .set-apid .ensures)
 
 pub with-apid-spec : {M : Type 1} → statement M
-with-apid-spec = tie.close (tie.spec set-apid-requires builder-set-requires returns)
+with-apid-spec = tie.close (tie.spec (λ c κs. search needs) (λ c κs. search needs) returns)

@@ -8,19 +8,10 @@ use borrow.Author.Needs.{needs}
 use Rattle.tc_write.proofs.PusTcBuilder.with_message_subtype_id.Statement.{statement}
 use Rattle.tc_write.proofs.PusTcBuilder.with_message_subtype_id.Tie as tie
 
-service-type-id-requires : tie.Need-service-type-id-requires
-service-type-id-requires c κs = search needs
-
-new-requires : tie.Need-new-requires
-new-requires c κs = search needs
-
-with-message-type-id-requires : tie.Need-with-message-type-id-requires
-with-message-type-id-requires c κs = search needs
-
 returns : tie.Need-returns
 returns c = let t = c .before .before .before .before .args .self .0 in c .with-message-type-id .ensures ∙ ap (λ m. builderOf (withSec t (secFrom m (t .«sec_header» .«ack_flags») (t .«sec_header» .«source_id») (t .«sec_header» .version)))) (c .before .new .ensures ∙ ap (λ m. messageType m (c .before .before .before .before .args .subtype-id)) (c .before .before .service-type-id .ensures))
 
 pub with-message-subtype-id-spec : {M : Type 1} → statement M
 with-message-subtype-id-spec =
     tie.close
-    (tie.spec service-type-id-requires new-requires with-message-type-id-requires returns)
+    (tie.spec (λ c κs. search needs) (λ c κs. search needs) (λ c κs. search needs) returns)

@@ -5,11 +5,8 @@ use borrow.Author.Needs.{needs}
 use Rattle.tc_write.proofs.PusTcBuilder.with_message_type_id.Statement.{statement}
 use Rattle.tc_write.proofs.PusTcBuilder.with_message_type_id.Tie as tie
 
-with-sec-requires : tie.Need-with-sec-requires
-with-sec-requires c κs = search needs
-
 returns : tie.Need-returns
 returns c = ap builderOf (c .with-sec .ensures)
 
 pub with-message-type-id-spec : {M : Type 1} → statement M
-with-message-type-id-spec = tie.close (tie.spec with-sec-requires returns)
+with-message-type-id-spec = tie.close (tie.spec (λ c κs. search needs) returns)

@@ -9,21 +9,6 @@ use borrow.Author.Needs.{needs}
 use Rattle.tc_write.proofs.PusTcBuilder.with_packet_id.Statement.{statement}
 use Rattle.tc_write.proofs.PusTcBuilder.with_packet_id.Tie as tie
 
-new-for-tc-requires : tie.Need-new-for-tc-requires
-new-for-tc-requires c κs = search needs
-
-check-requires : tie.Need-check-requires
-check-requires c κs = search needs
-
-with-header-requires : tie.Need-with-header-requires
-with-header-requires c κs = search needs
-
-kept-if-requires : tie.Need-kept-if-requires
-kept-if-requires c κs = search needs
-
-builder-set-requires : tie.Need-builder-set-requires
-builder-set-requires c κs = search needs
-
 returns : tie.Need-returns
 returns c = let t = c .before .before .before .before .before .before .before .before .args .self .0 in c .builder-set .ensures ∙ edit-in builderOf _ _ _ _ (c .before .kept-if .ensures ∙ ap₂ (λ p u. setIf p t u) (c .before .before .before .check .ensures) (c .before .before .with-header .ensures ∙ ap (λ i. withHeader t (withId (t .«sp_header») i)) (c .before .before .before .before .new-for-tc .ensures)))
 
@@ -31,9 +16,9 @@ pub with-packet-id-spec : {M : Type 1} → statement M
 with-packet-id-spec =
     tie.close
     (tie.spec
-    new-for-tc-requires
-    check-requires
-    with-header-requires
-    kept-if-requires
-    builder-set-requires
+    (λ c κs. search needs)
+    (λ c κs. search needs)
+    (λ c κs. search needs)
+    (λ c κs. search needs)
+    (λ c κs. search needs)
     returns)

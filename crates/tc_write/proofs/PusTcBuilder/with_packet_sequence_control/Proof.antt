@@ -7,22 +7,10 @@ use borrow.Author.Needs.{needs}
 use Rattle.tc_write.proofs.PusTcBuilder.with_packet_sequence_control.Statement.{statement}
 use Rattle.tc_write.proofs.PusTcBuilder.with_packet_sequence_control.Tie as tie
 
-check-requires : tie.Need-check-requires
-check-requires c κs = search needs
-
-with-header-requires : tie.Need-with-header-requires
-with-header-requires c κs = search needs
-
-kept-if-requires : tie.Need-kept-if-requires
-kept-if-requires c κs = search needs
-
-builder-set-requires : tie.Need-builder-set-requires
-builder-set-requires c κs = search needs
-
 returns : tie.Need-returns
 returns c = let t = c .before .before .before .before .before .before .before .args .self .0 in c .builder-set .ensures ∙ edit-in builderOf _ _ _ _ (c .before .kept-if .ensures ∙ ap₂ (λ p u. setIf p t u) (c .before .before .before .check .ensures) (c .before .before .with-header .ensures))
 
 pub with-packet-sequence-control-spec : {M : Type 1} → statement M
 with-packet-sequence-control-spec =
     tie.close
-    (tie.spec check-requires with-header-requires kept-if-requires builder-set-requires returns)
+    (tie.spec (λ c κs. search needs) (λ c κs. search needs) (λ c κs. search needs) (λ c κs. search needs) returns)

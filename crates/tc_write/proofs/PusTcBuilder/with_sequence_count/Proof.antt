@@ -6,14 +6,8 @@ use borrow.Author.Needs.{needs}
 use Rattle.tc_write.proofs.PusTcBuilder.with_sequence_count.Statement.{statement}
 use Rattle.tc_write.proofs.PusTcBuilder.with_sequence_count.Tie as tie
 
-set-seq-count-requires : tie.Need-set-seq-count-requires
-set-seq-count-requires c κs = search needs
-
-builder-set-requires : tie.Need-builder-set-requires
-builder-set-requires c κs = search needs
-
 returns : tie.Need-returns
 returns c = c .builder-set .ensures ∙ edit-in builderOf _ _ _ _ (c .before .set-seq-count .ensures)
 
 pub with-sequence-count-spec : {M : Type 1} → statement M
-with-sequence-count-spec = tie.close (tie.spec set-seq-count-requires builder-set-requires returns)
+with-sequence-count-spec = tie.close (tie.spec (λ c κs. search needs) (λ c κs. search needs) returns)

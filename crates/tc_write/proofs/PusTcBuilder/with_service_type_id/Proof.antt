@@ -8,19 +8,10 @@ use borrow.Author.Needs.{needs}
 use Rattle.tc_write.proofs.PusTcBuilder.with_service_type_id.Statement.{statement}
 use Rattle.tc_write.proofs.PusTcBuilder.with_service_type_id.Tie as tie
 
-message-subtype-id-requires : tie.Need-message-subtype-id-requires
-message-subtype-id-requires c κs = search needs
-
-new-requires : tie.Need-new-requires
-new-requires c κs = search needs
-
-with-message-type-id-requires : tie.Need-with-message-type-id-requires
-with-message-type-id-requires c κs = search needs
-
 returns : tie.Need-returns
 returns c = let t = c .before .before .before .before .args .self .0 in c .with-message-type-id .ensures ∙ ap (λ m. builderOf (withSec t (secFrom m (t .«sec_header» .«ack_flags») (t .«sec_header» .«source_id») (t .«sec_header» .version)))) (c .before .new .ensures ∙ ap (λ m. messageType (c .before .before .before .before .args .service) m) (c .before .before .message-subtype-id .ensures))
 
 pub with-service-type-id-spec : {M : Type 1} → statement M
 with-service-type-id-spec =
     tie.close
-    (tie.spec message-subtype-id-requires new-requires with-message-type-id-requires returns)
+    (tie.spec (λ c κs. search needs) (λ c κs. search needs) (λ c κs. search needs) returns)

@@ -6,14 +6,8 @@ use borrow.Author.Needs.{needs}
 use Rattle.tc_write.proofs.PusTcBuilder.with_source_id.Statement.{statement}
 use Rattle.tc_write.proofs.PusTcBuilder.with_source_id.Tie as tie
 
-set-source-id-requires : tie.Need-set-source-id-requires
-set-source-id-requires c κs = search needs
-
-builder-set-requires : tie.Need-builder-set-requires
-builder-set-requires c κs = search needs
-
 returns : tie.Need-returns
 returns c = c .builder-set .ensures ∙ edit-in builderOf _ _ _ _ (c .before .set-source-id .ensures)
 
 pub with-source-id-spec : {M : Type 1} → statement M
-with-source-id-spec = tie.close (tie.spec set-source-id-requires builder-set-requires returns)
+with-source-id-spec = tie.close (tie.spec (λ c κs. search needs) (λ c κs. search needs) returns)

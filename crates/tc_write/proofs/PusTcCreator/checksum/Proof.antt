@@ -10,12 +10,6 @@ use Rattle.tc_write.proofs.PusTcCreator.checksum.Tie as tie
 returns : tie.Need-returns
 returns c = sym (checksum-none _ _ (not-true _ (c .if1 .taken)))
 
-calc-own-crc16-requires : tie.Need-calc-own-crc16-requires
-calc-own-crc16-requires c κs = search needs
-
-checksum-of-requires : tie.Need-checksum-of-requires
-checksum-of-requires c κs = search needs
-
 returns-2 : tie.Need-returns-2
 returns-2 c =
     c .checksum-of .ensures ∙ then-of _ _ _ (c .before .calc-own-crc16 .ensures)
@@ -23,4 +17,4 @@ returns-2 c =
 
 pub checksum-spec : {M : Type 1} → statement M
 checksum-spec =
-    tie.close (tie.spec returns calc-own-crc16-requires checksum-of-requires returns-2)
+    tie.close (tie.spec returns (λ c κs. search needs) (λ c κs. search needs) returns-2)

@@ -7,18 +7,6 @@ use borrow.Author.Needs.{needs}
 use Rattle.tc_write.proofs.PusTcCreator.eq.Statement.{statement}
 use Rattle.tc_write.proofs.PusTcCreator.eq.Tie as tie
 
-eq-requires : tie.Need-eq-requires
-eq-requires c κs = search needs
-
-eq-requires-2 : tie.Need-eq-requires-2
-eq-requires-2 c κs = search needs
-
-eq-requires-3 : tie.Need-eq-requires-3
-eq-requires-3 c κs = search needs
-
-same-octets-requires : tie.Need-same-octets-requires
-same-octets-requires c κs = search needs
-
 returns : tie.Need-returns
 unfolding sameCreator
 returns c =
@@ -31,4 +19,4 @@ returns c =
 pub eq-spec : {M : Type 1} → statement M
 eq-spec =
     tie.close
-    (tie.spec eq-requires eq-requires-2 eq-requires-3 same-octets-requires returns)
+    (tie.spec (λ c κs. search needs) (λ c κs. search needs) (λ c κs. search needs) (λ c κs. search needs) returns)

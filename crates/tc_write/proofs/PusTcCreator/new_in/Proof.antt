@@ -8,18 +8,6 @@ use borrow.Author.Needs.{needs}
 use Rattle.tc_write.proofs.PusTcCreator.new_in.Statement.{statement}
 use Rattle.tc_write.proofs.PusTcCreator.new_in.Tie as tie
 
-asks-requires : tie.Need-asks-requires
-asks-requires c κs = search needs
-
-min-len-without-app-data-requires : tie.Need-min-len-without-app-data-requires
-min-len-without-app-data-requires c κs = search needs
-
-made-requires : tie.Need-made-requires
-made-requires c κs = search needs
-
-creator-requires : tie.Need-creator-requires
-creator-requires c κs = search needs
-
 returns : tie.Need-returns
 returns c =
     let m = c .before .before in
@@ -33,4 +21,4 @@ returns c =
 pub new-in-spec : {M : Type 1} → statement M
 new-in-spec =
     tie.close
-    (tie.spec asks-requires min-len-without-app-data-requires made-requires creator-requires returns)
+    (tie.spec (λ c κs. search needs) (λ c κs. search needs) (λ c κs. search needs) (λ c κs. search needs) returns)

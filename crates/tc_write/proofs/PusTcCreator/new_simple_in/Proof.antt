@@ -6,12 +6,6 @@ use borrow.Author.Needs.{needs}
 use Rattle.tc_write.proofs.PusTcCreator.new_simple_in.Statement.{statement}
 use Rattle.tc_write.proofs.PusTcCreator.new_simple_in.Tie as tie
 
-simple-requires : tie.Need-simple-requires
-simple-requires c κs = search needs
-
-new-in-requires : tie.Need-new-in-requires
-new-in-requires c κs = search needs
-
 returns : tie.Need-returns
 returns c =
     let a = c .before .before .before .args in
@@ -19,4 +13,4 @@ returns c =
     ∙ ap (λ x. newIn (a .form) (a .sph) x (length (a .app-data .now)) (a .packet-config)) (c .before .simple .ensures)
 
 pub new-simple-in-spec : {M : Type 1} → statement M
-new-simple-in-spec = tie.close (tie.spec simple-requires new-in-requires returns)
+new-simple-in-spec = tie.close (tie.spec (λ c κs. search needs) (λ c κs. search needs) returns)

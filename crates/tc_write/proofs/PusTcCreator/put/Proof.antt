@@ -9,30 +9,6 @@ use borrow.Author.Needs.{needs}
 use Rattle.tc_write.proofs.PusTcCreator.put.Statement.{statement}
 use Rattle.tc_write.proofs.PusTcCreator.put.Tie as tie
 
-slice-aggregate-write-to-slice-in : tie.Need-slice-aggregate-write-to-slice-in
-slice-aggregate-write-to-slice-in c = search needs
-
-write-to-slice-in-requires : tie.Need-write-to-slice-in-requires
-write-to-slice-in-requires c κs = search needs
-
-slice-aggregate-front : tie.Need-slice-aggregate-front
-slice-aggregate-front c = search needs
-
-sec-header-len-requires : tie.Need-sec-header-len-requires
-sec-header-len-requires c κs = search needs
-
-front-requires : tie.Need-front-requires
-front-requires c κs = search needs
-
-asks-requires : tie.Need-asks-requires
-asks-requires c κs = search needs
-
-put-requires : tie.Need-put-requires
-put-requires c κs = search needs
-
-same-length : tie.Need-same-length
-same-length c = search needs
-
 returns : tie.Need-returns
 returns c =
     let k = c .before .before .before .before in
@@ -49,12 +25,12 @@ pub put-spec : {M : Type 1} → statement M
 put-spec =
     tie.close
     (tie.spec
-    slice-aggregate-write-to-slice-in
-    write-to-slice-in-requires
-    slice-aggregate-front
-    sec-header-len-requires
-    front-requires
-    asks-requires
-    put-requires
-    same-length
+    (λ c. search needs)
+    (λ c κs. search needs)
+    (λ c. search needs)
+    (λ c κs. search needs)
+    (λ c κs. search needs)
+    (λ c κs. search needs)
+    (λ c κs. search needs)
+    (λ c. search needs)
     returns)

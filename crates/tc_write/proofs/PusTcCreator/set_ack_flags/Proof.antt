@@ -4,17 +4,8 @@ use borrow.Author.Needs.{needs}
 use Rattle.tc_write.proofs.PusTcCreator.set_ack_flags.Statement.{statement}
 use Rattle.tc_write.proofs.PusTcCreator.set_ack_flags.Tie as tie
 
-check-requires : tie.Need-check-requires
-check-requires c κs = search needs
-
-with-sec-requires : tie.Need-with-sec-requires
-with-sec-requires c κs = search needs
-
-kept-if-requires : tie.Need-kept-if-requires
-kept-if-requires c κs = search needs
-
 returns : tie.Need-returns
 returns c = kept-by _ _ _ _ _ _ (c .kept-if .ensures) (c .before .before .check .ensures) (c .before .with-sec .ensures)
 
 pub set-ack-flags-spec : {M : Type 1} → statement M
-set-ack-flags-spec = tie.close (tie.spec check-requires with-sec-requires kept-if-requires returns)
+set-ack-flags-spec = tie.close (tie.spec (λ c κs. search needs) (λ c κs. search needs) (λ c κs. search needs) returns)

@@ -9,18 +9,6 @@ use borrow.Author.Needs.{needs}
 use Rattle.tc_write.proofs.PusTcCreator.update_ccsds_data_len.Statement.{statement}
 use Rattle.tc_write.proofs.PusTcCreator.update_ccsds_data_len.Tie as tie
 
-min-len-without-app-data-requires : tie.Need-min-len-without-app-data-requires
-min-len-without-app-data-requires c κs = search needs
-
-asks-requires : tie.Need-asks-requires
-asks-requires c κs = search needs
-
-length-afresh-requires : tie.Need-length-afresh-requires
-length-afresh-requires c κs = search needs
-
-edited-requires : tie.Need-edited-requires
-edited-requires c κs = search needs
-
 returns : tie.Need-returns
 returns c =
     let k = c .before .before in
@@ -34,8 +22,8 @@ pub update-ccsds-data-len-spec : {M : Type 1} → statement M
 update-ccsds-data-len-spec =
     tie.close
     (tie.spec
-    min-len-without-app-data-requires
-    asks-requires
-    length-afresh-requires
-    edited-requires
+    (λ c κs. search needs)
+    (λ c κs. search needs)
+    (λ c κs. search needs)
+    (λ c κs. search needs)
     returns)

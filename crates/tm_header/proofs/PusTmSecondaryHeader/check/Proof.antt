@@ -7,26 +7,11 @@ use borrow.Author.Needs.{needs}
 use Rattle.tm_header.proofs.PusTmSecondaryHeader.check.Statement.{statement}
 use Rattle.tm_header.proofs.PusTmSecondaryHeader.check.Tie as tie
 
-check-time-requires : tie.Need-check-time-requires
-check-time-requires c κs = search needs
-
 enum-told : tie.Need-enum-told
 enum-told c = search needs
 
-enum-told-2 : tie.Need-enum-told-2
-enum-told-2 c = search needs
-
 returns : tie.Need-returns
 returns c = let k = ap checkAnswer (c .enum-told2 .given .1) in k ∙ sym (checks-time _ _ _ _ (sym (c .before .before .check-time .ensures) ∙ k))
-
-check-fields-requires : tie.Need-check-fields-requires
-check-fields-requires c κs = search needs
-
-enum-told-3 : tie.Need-enum-told-3
-enum-told-3 c = search needs
-
-enum-told-4 : tie.Need-enum-told-4
-enum-told-4 c = search needs
 
 returns-2 : tie.Need-returns-2
 returns-2 c =
@@ -34,17 +19,11 @@ returns-2 c =
     let k = ap checkAnswer (c .enum-told4 .given .1) in
     k ∙ sym (checks-fields _ _ _ _ a (sym (c .before .before .check-fields .ensures) ∙ k))
 
-sec-header-len-requires : tie.Need-sec-header-len-requires
-sec-header-len-requires c κs = search needs
-
 returns-3 : tie.Need-returns-3
 returns-3 c =
     let a = sym (c .before .before .before .before .before .before .before .check-time .ensures) ∙ ap checkAnswer (c .before .before .before .before .before .enum-told .given .1) in
     let b = sym (c .before .before .before .before .check-fields .ensures) ∙ ap checkAnswer (c .before .before .enum-told3 .given .1) in
     sym (checks-no-room _ _ _ _ a b (sym (no-room _ _ _ (c .before .sec-header-len .ensures) (c .if1 .taken))))
-
-check-version-requires : tie.Need-check-version-requires
-check-version-requires c κs = search needs
 
 returns-4 : tie.Need-returns-4
 returns-4 c =
@@ -57,15 +36,15 @@ pub check-spec : {M : Type 1} → statement M
 check-spec =
     tie.close
     (tie.spec
-    check-time-requires
+    (λ c κs. search needs)
     enum-told
-    enum-told-2
+    (λ c. search needs)
     returns
-    check-fields-requires
-    enum-told-3
-    enum-told-4
+    (λ c κs. search needs)
+    (λ c. search needs)
+    (λ c. search needs)
     returns-2
-    sec-header-len-requires
+    (λ c κs. search needs)
     returns-3
-    check-version-requires
+    (λ c κs. search needs)
     returns-4)

@@ -10,12 +10,6 @@ use borrow.Author.Needs.{needs}
 use Rattle.tm_header.proofs.PusTmSecondaryHeader.from_be_bytes.Statement.{statement}
 use Rattle.tm_header.proofs.PusTmSecondaryHeader.from_be_bytes.Tie as tie
 
-check-time-len-requires : tie.Need-check-time-len-requires
-check-time-len-requires c κs = search needs
-
-enum-known-c : tie.Need-enum-known-c
-enum-known-c c = search needs
-
 returns : tie.Need-returns
 unfolding secRead
 returns c = sym (refuses-then _ _ _ (sym (c .before .before .before .check-time-len .ensures) ∙ ap checkAnswer (c .before .c .given .1)))
@@ -23,32 +17,11 @@ returns c = sym (refuses-then _ _ _ (sym (c .before .before .before .check-time-
 enum-told : tie.Need-enum-told
 enum-told c = search needs
 
-sec-header-len-requires : tie.Need-sec-header-len-requires
-sec-header-len-requires c κs = search needs
-
 returns-2 : tie.Need-returns-2
 unfolding secRead
 returns-2 c =
     let e = sym (c .before .before .before .before .check-time-len .ensures) ∙ ap checkAnswer (c .before .before .enum-told .given .1) in
     sym (gives-then _ _ _ e ∙ sym (too-few _ _ _ _ (c .before .sec-header-len .ensures) (c .if1 .taken)))
-
-shared-slice-read-status : tie.Need-shared-slice-read-status
-shared-slice-read-status c = search needs
-
-shared-slice-read-new : tie.Need-shared-slice-read-new
-shared-slice-read-new c = search needs
-
-shared-slice-read-new-2 : tie.Need-shared-slice-read-new-2
-shared-slice-read-new-2 c = search needs
-
-new-requires : tie.Need-new-requires
-new-requires c κs = search needs
-
-word-at-requires : tie.Need-word-at-requires
-word-at-requires c κs = search needs
-
-word-at-requires-2 : tie.Need-word-at-requires-2
-word-at-requires-2 c κs = search needs
 
 returns-3 : tie.Need-returns-3
 unfolding secRead fieldsOf
@@ -66,16 +39,16 @@ pub from-be-bytes-spec : {M : Type 1} → statement M
 from-be-bytes-spec =
     tie.close
     (tie.spec
-    check-time-len-requires
-    enum-known-c
+    (λ c κs. search needs)
+    (λ c. search needs)
     returns
     enum-told
-    sec-header-len-requires
+    (λ c κs. search needs)
     returns-2
-    shared-slice-read-status
-    shared-slice-read-new
-    shared-slice-read-new-2
-    new-requires
-    word-at-requires
-    word-at-requires-2
+    (λ c. search needs)
+    (λ c. search needs)
+    (λ c. search needs)
+    (λ c κs. search needs)
+    (λ c κs. search needs)
+    (λ c κs. search needs)
     returns-3)

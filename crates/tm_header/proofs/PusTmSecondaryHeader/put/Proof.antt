@@ -11,17 +11,11 @@ use borrow.Author.Needs.{needs}
 use Rattle.tm_header.proofs.PusTmSecondaryHeader.put.Statement.{statement}
 use Rattle.tm_header.proofs.PusTmSecondaryHeader.put.Tie as tie
 
-raw-value-requires : tie.Need-raw-value-requires
-raw-value-requires c κs = search needs
-
 mul-buf : tie.Need-mul-buf
 mul-buf c = omega (arith, version-le (c .before .before .args .self .«pus_version»), c .raw-value .ensures)
 
 add-buf : tie.Need-add-buf
 add-buf c = omega (arith, version-le (c .before .before .before .args .self .«pus_version»), c .before .raw-value .ensures)
-
-slice-write-buf : tie.Need-slice-write-buf
-slice-write-buf c = search needs
 
 slice-write-buf-2 : tie.Need-slice-write-buf-2
 slice-write-buf-2 c = simp length-set (omega arith)
@@ -29,32 +23,17 @@ slice-write-buf-2 c = simp length-set (omega arith)
 slice-write-buf-3 : tie.Need-slice-write-buf-3
 slice-write-buf-3 c = simp length-set (omega arith)
 
-cast-buf : tie.Need-cast-buf
-cast-buf c = search needs
-
 slice-write-buf-4 : tie.Need-slice-write-buf-4
 slice-write-buf-4 c = simp length-set (omega arith)
-
-cast-buf-2 : tie.Need-cast-buf-2
-cast-buf-2 c = search needs
 
 slice-write-buf-5 : tie.Need-slice-write-buf-5
 slice-write-buf-5 c = simp length-set (omega arith)
 
-cast-buf-3 : tie.Need-cast-buf-3
-cast-buf-3 c = search needs
-
 slice-write-buf-6 : tie.Need-slice-write-buf-6
 slice-write-buf-6 c = simp length-set (omega arith)
 
-cast-buf-4 : tie.Need-cast-buf-4
-cast-buf-4 c = search needs
-
 slice-write-buf-7 : tie.Need-slice-write-buf-7
 slice-write-buf-7 c = simp length-set (omega arith)
-
-same-length : tie.Need-same-length
-same-length c = search needs
 
 returns : tie.Need-returns
 returns c = let a = c .before .before .before .before .before .before .before .args in
@@ -66,19 +45,19 @@ pub put-spec : {M : Type 1} → statement M
 put-spec =
     tie.close
     (tie.spec
-    raw-value-requires
+    (λ c κs. search needs)
     mul-buf
     add-buf
-    slice-write-buf
+    (λ c. search needs)
     slice-write-buf-2
     slice-write-buf-3
-    cast-buf
+    (λ c. search needs)
     slice-write-buf-4
-    cast-buf-2
+    (λ c. search needs)
     slice-write-buf-5
-    cast-buf-3
+    (λ c. search needs)
     slice-write-buf-6
-    cast-buf-4
+    (λ c. search needs)
     slice-write-buf-7
-    same-length
+    (λ c. search needs)
     returns)

@@ -6,15 +6,6 @@ use borrow.Author.Needs.{needs}
 use Rattle.tm_header.proofs.PusTmSecondaryHeader.set_sc_time_ref_status.Statement.{statement}
 use Rattle.tm_header.proofs.PusTmSecondaryHeader.set_sc_time_ref_status.Tie as tie
 
-check-status-requires : tie.Need-check-status-requires
-check-status-requires c κs = search needs
-
-enum-told : tie.Need-enum-told
-enum-told c = search needs
-
-enum-told-2 : tie.Need-enum-told-2
-enum-told-2 c = search needs
-
 returns : tie.Need-returns
 returns c = let k = c .before .before .check-status in kept-old _ _ _ _ _ (k .ensures) (sym (k .ensures) ∙ ap checkAnswer (c .enum-told2 .given .1))
 
@@ -23,4 +14,4 @@ returns-2 c = let k = c .before .before .before .check-status in kept-new _ _ _ 
 
 pub set-sc-time-ref-status-spec : {M : Type 1} → statement M
 set-sc-time-ref-status-spec =
-    tie.close (tie.spec check-status-requires enum-told enum-told-2 returns returns-2)
+    tie.close (tie.spec (λ c κs. search needs) (λ c. search needs) (λ c. search needs) returns returns-2)

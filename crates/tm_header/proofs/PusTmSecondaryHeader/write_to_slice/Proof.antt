@@ -13,12 +13,6 @@ use borrow.Author.Needs.{needs}
 use Rattle.tm_header.proofs.PusTmSecondaryHeader.write_to_slice.Statement.{statement}
 use Rattle.tm_header.proofs.PusTmSecondaryHeader.write_to_slice.Tie as tie
 
-check-requires : tie.Need-check-requires
-check-requires c κs = search needs
-
-enum-known-c : tie.Need-enum-known-c
-enum-known-c c = search needs
-
 returns : tie.Need-returns
 unfolding secWrite
 returns c = let w = refuses-then _ _ _ (sym (c .before .before .before .check .ensures) ∙ ap checkAnswer (c .before .c .given .1)) in
@@ -37,12 +31,6 @@ put-time-requires c κs =
     let k = c .before .before .before .before in
     let q = asked-put _ _ _ (sym (k .before .before .before .check .ensures) ∙ ap checkAnswer (k .before .enum-told .given .1)) in
     omega (arith, q .1 .0, q .1 .1)
-
-sec-header-len-requires : tie.Need-sec-header-len-requires
-sec-header-len-requires c κs = search needs
-
-same-length : tie.Need-same-length
-same-length c = search needs
 
 returns-2 : tie.Need-returns-2
 unfolding secWrite tmOctets
@@ -65,12 +53,12 @@ pub write-to-slice-spec : {M : Type 1} → statement M
 write-to-slice-spec =
     tie.close
     (tie.spec
-    check-requires
-    enum-known-c
+    (λ c κs. search needs)
+    (λ c. search needs)
     returns
     enum-told
     put-requires
     put-time-requires
-    sec-header-len-requires
-    same-length
+    (λ c κs. search needs)
+    (λ c. search needs)
     returns-2)

@@ -8,21 +8,6 @@ use borrow.Author.Needs.{needs}
 use Rattle.tm_read.proofs.PusTmRecord.new.Statement.{statement}
 use Rattle.tm_read.proofs.PusTmRecord.new.Tie as tie
 
-check-time-len-requires : tie.Need-check-time-len-requires
-check-time-len-requires c κs = search needs
-
-min-len-without-source-data-requires : tie.Need-min-len-without-source-data-requires
-min-len-without-source-data-requires c κs = search needs
-
-checked-after-requires : tie.Need-checked-after-requires
-checked-after-requires c κs = search needs
-
-enum-known-f : tie.Need-enum-known-f
-enum-known-f c = search needs
-
-enum-known-f-2 : tie.Need-enum-known-f-2
-enum-known-f-2 c = search needs
-
 of-requires : tie.Need-of-requires
 of-requires c κs =
     let k = c .before .before .before in
@@ -47,11 +32,11 @@ pub new-spec : {M : Type 1} → statement M
 new-spec =
     tie.close
     (tie.spec
-    check-time-len-requires
-    min-len-without-source-data-requires
-    checked-after-requires
-    enum-known-f
-    enum-known-f-2
+    (λ c κs. search needs)
+    (λ c κs. search needs)
+    (λ c κs. search needs)
+    (λ c. search needs)
+    (λ c. search needs)
     of-requires
     returns
     returns-2)

@@ -12,36 +12,6 @@ use borrow.Author.Needs.{needs}
 use Rattle.tm_reserved.proofs.PusTmCreatorWithReservedSourceData.new.Statement.{statement}
 use Rattle.tm_reserved.proofs.PusTmCreatorWithReservedSourceData.new.Tie as tie
 
-as-type-requires : tie.Need-as-type-requires
-as-type-requires c κs = search needs
-
-slice-aggregate-write-to-slice : tie.Need-slice-aggregate-write-to-slice
-slice-aggregate-write-to-slice c = search needs
-
-write-to-slice-requires : tie.Need-write-to-slice-requires
-write-to-slice-requires c κs = search needs
-
-asks-requires : tie.Need-asks-requires
-asks-requires c κs = search needs
-
-slice-aggregate-front : tie.Need-slice-aggregate-front
-slice-aggregate-front c = search needs
-
-sec-header-len-requires : tie.Need-sec-header-len-requires
-sec-header-len-requires c κs = search needs
-
-front-requires : tie.Need-front-requires
-front-requires c κs = search needs
-
-reserve-requires : tie.Need-reserve-requires
-reserve-requires c κs = search needs
-
-reservation-requires : tie.Need-reservation-requires
-reservation-requires c κs = search needs
-
-same-length : tie.Need-same-length
-same-length c = search needs
-
 returns : tie.Need-returns
 returns c =
     let f = c .before .before .before .before .before in
@@ -65,14 +35,14 @@ pub new-spec : {M : Type 1} → statement M
 new-spec =
     tie.close
     (tie.spec
-    as-type-requires
-    slice-aggregate-write-to-slice
-    write-to-slice-requires
-    asks-requires
-    slice-aggregate-front
-    sec-header-len-requires
-    front-requires
-    reserve-requires
-    reservation-requires
-    same-length
+    (λ c κs. search needs)
+    (λ c. search needs)
+    (λ c κs. search needs)
+    (λ c κs. search needs)
+    (λ c. search needs)
+    (λ c κs. search needs)
+    (λ c κs. search needs)
+    (λ c κs. search needs)
+    (λ c κs. search needs)
+    (λ c. search needs)
     returns)

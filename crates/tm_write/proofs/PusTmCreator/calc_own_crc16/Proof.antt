@@ -10,27 +10,6 @@ use borrow.Author.Needs.{needs}
 use Rattle.tm_write.proofs.PusTmCreator.calc_own_crc16.Statement.{statement}
 use Rattle.tm_write.proofs.PusTmCreator.calc_own_crc16.Tie as tie
 
-slice-aggregate-write-to-slice : tie.Need-slice-aggregate-write-to-slice
-slice-aggregate-write-to-slice c = search needs
-
-write-to-slice-requires : tie.Need-write-to-slice-requires
-write-to-slice-requires c κs = search needs
-
-slice-aggregate-front : tie.Need-slice-aggregate-front
-slice-aggregate-front c = search needs
-
-sec-header-len-requires : tie.Need-sec-header-len-requires
-sec-header-len-requires c κs = search needs
-
-front-requires : tie.Need-front-requires
-front-requires c κs = search needs
-
-asks-requires : tie.Need-asks-requires
-asks-requires c κs = search needs
-
-own-checksum-requires : tie.Need-own-checksum-requires
-own-checksum-requires c κs = search needs
-
 returns : tie.Need-returns
 returns c =
     let k = c .before in
@@ -49,11 +28,11 @@ pub calc-own-crc16-spec : {M : Type 1} → statement M
 calc-own-crc16-spec =
     tie.close
     (tie.spec
-    slice-aggregate-write-to-slice
-    write-to-slice-requires
-    slice-aggregate-front
-    sec-header-len-requires
-    front-requires
-    asks-requires
-    own-checksum-requires
+    (λ c. search needs)
+    (λ c κs. search needs)
+    (λ c. search needs)
+    (λ c κs. search needs)
+    (λ c κs. search needs)
+    (λ c κs. search needs)
+    (λ c κs. search needs)
     returns)

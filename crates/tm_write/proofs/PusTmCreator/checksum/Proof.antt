@@ -8,12 +8,6 @@ use borrow.Author.Needs.{needs}
 use Rattle.tm_write.proofs.PusTmCreator.checksum.Statement.{statement}
 use Rattle.tm_write.proofs.PusTmCreator.checksum.Tie as tie
 
-check-time-requires : tie.Need-check-time-requires
-check-time-requires c κs = search needs
-
-enum-known-c : tie.Need-enum-known-c
-enum-known-c c = search needs
-
 returns : tie.Need-returns
 returns c = sym (refuses-then _ _ _ (sym (c .before .before .before .check-time .ensures) ∙ ap checkAnswer (c .before .c .given .1)))
 
@@ -24,12 +18,6 @@ returns-2 : tie.Need-returns-2
 returns-2 c =
     let e = sym (c .before .before .before .before .check-time .ensures) ∙ ap checkAnswer (c .before .before .enum-told .given .1) in
     sym (gives-then _ _ _ e ∙ checksum-none _ _ (not-true _ (c .if1 .taken)))
-
-calc-own-crc16-requires : tie.Need-calc-own-crc16-requires
-calc-own-crc16-requires c κs = search needs
-
-checksum-of-requires : tie.Need-checksum-of-requires
-checksum-of-requires c κs = search needs
 
 returns-3 : tie.Need-returns-3
 returns-3 c =
@@ -42,11 +30,11 @@ pub checksum-spec : {M : Type 1} → statement M
 checksum-spec =
     tie.close
     (tie.spec
-    check-time-requires
-    enum-known-c
+    (λ c κs. search needs)
+    (λ c. search needs)
     returns
     enum-told
     returns-2
-    calc-own-crc16-requires
-    checksum-of-requires
+    (λ c κs. search needs)
+    (λ c κs. search needs)
     returns-3)

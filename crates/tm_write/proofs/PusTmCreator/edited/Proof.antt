@@ -6,11 +6,8 @@ use borrow.Author.Needs.{needs}
 use Rattle.tm_write.proofs.PusTmCreator.edited.Statement.{statement}
 use Rattle.tm_write.proofs.PusTmCreator.edited.Tie as tie
 
-with-header-requires : tie.Need-with-header-requires
-with-header-requires c κs = search needs
-
 returns : tie.Need-returns
 returns c = ap (λ (t : PusTmCreator). record { passed = checkAnswer (c .before .before .args .set .result); kept = t }) (c .with-header .ensures)
 
 pub edited-spec : {M : Type 1} → statement M
-edited-spec = tie.close (tie.spec with-header-requires returns)
+edited-spec = tie.close (tie.spec (λ c κs. search needs) returns)

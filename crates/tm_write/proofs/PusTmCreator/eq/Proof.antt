@@ -8,18 +8,6 @@ use borrow.Author.Needs.{needs}
 use Rattle.tm_write.proofs.PusTmCreator.eq.Statement.{statement}
 use Rattle.tm_write.proofs.PusTmCreator.eq.Tie as tie
 
-eq-requires : tie.Need-eq-requires
-eq-requires c κs = search needs
-
-eq-requires-2 : tie.Need-eq-requires-2
-eq-requires-2 c κs = search needs
-
-same-octets-requires : tie.Need-same-octets-requires
-same-octets-requires c κs = search needs
-
-same-octets-requires-2 : tie.Need-same-octets-requires-2
-same-octets-requires-2 c κs = search needs
-
 returns : tie.Need-returns
 unfolding sameCreator
 returns c =
@@ -34,4 +22,4 @@ returns c =
 pub eq-spec : {M : Type 1} → statement M
 eq-spec =
     tie.close
-    (tie.spec eq-requires eq-requires-2 same-octets-requires same-octets-requires-2 returns)
+    (tie.spec (λ c κs. search needs) (λ c κs. search needs) (λ c κs. search needs) (λ c κs. search needs) returns)

@@ -8,23 +8,8 @@ use borrow.Author.Needs.{needs}
 use Rattle.tm_write.proofs.PusTmCreator.len_written.Statement.{statement}
 use Rattle.tm_write.proofs.PusTmCreator.len_written.Tie as tie
 
-check-time-requires : tie.Need-check-time-requires
-check-time-requires c κs = search needs
-
-enum-known-c : tie.Need-enum-known-c
-enum-known-c c = search needs
-
 returns : tie.Need-returns
 returns c = sym (refuses-then _ _ _ (sym (c .before .before .before .check-time .ensures) ∙ ap checkAnswer (c .before .c .given .1)))
-
-enum-told : tie.Need-enum-told
-enum-told c = search needs
-
-min-len-without-source-data-requires : tie.Need-min-len-without-source-data-requires
-min-len-without-source-data-requires c κs = search needs
-
-total-of-requires : tie.Need-total-of-requires
-total-of-requires c κs = search needs
 
 returns-2 : tie.Need-returns-2
 returns-2 c =
@@ -39,10 +24,10 @@ pub len-written-spec : {M : Type 1} → statement M
 len-written-spec =
     tie.close
     (tie.spec
-    check-time-requires
-    enum-known-c
+    (λ c κs. search needs)
+    (λ c. search needs)
     returns
-    enum-told
-    min-len-without-source-data-requires
-    total-of-requires
+    (λ c. search needs)
+    (λ c κs. search needs)
+    (λ c κs. search needs)
     returns-2)

@@ -9,18 +9,6 @@ use borrow.Author.Needs.{needs}
 use Rattle.tm_write.proofs.PusTmCreator.new.Statement.{statement}
 use Rattle.tm_write.proofs.PusTmCreator.new.Tie as tie
 
-asks-requires : tie.Need-asks-requires
-asks-requires c κs = search needs
-
-min-len-without-source-data-requires : tie.Need-min-len-without-source-data-requires
-min-len-without-source-data-requires c κs = search needs
-
-made-requires : tie.Need-made-requires
-made-requires c κs = search needs
-
-creator-requires : tie.Need-creator-requires
-creator-requires c κs = search needs
-
 returns : tie.Need-returns
 returns c =
     let m = c .before .before in
@@ -36,8 +24,8 @@ pub new-spec : {M : Type 1} → statement M
 new-spec =
     tie.close
     (tie.spec
-    asks-requires
-    min-len-without-source-data-requires
-    made-requires
-    creator-requires
+    (λ c κs. search needs)
+    (λ c κs. search needs)
+    (λ c κs. search needs)
+    (λ c κs. search needs)
     returns)

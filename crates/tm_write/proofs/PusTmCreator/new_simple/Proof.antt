@@ -6,12 +6,6 @@ use borrow.Author.Needs.{needs}
 use Rattle.tm_write.proofs.PusTmCreator.new_simple.Statement.{statement}
 use Rattle.tm_write.proofs.PusTmCreator.new_simple.Tie as tie
 
-new-simple-requires : tie.Need-new-simple-requires
-new-simple-requires c κs = search needs
-
-new-requires : tie.Need-new-requires
-new-requires c κs = search needs
-
 returns : tie.Need-returns
 returns c =
     let a = c .before .before .before .before .args in
@@ -19,4 +13,4 @@ returns c =
     ∙ ap (λ x. newOf (a .time-len) (a .sp-header) x (a .time .now) (length (a .source-data .now)) (a .packet-config)) (c .before .new-simple .ensures)
 
 pub new-simple-spec : {M : Type 1} → statement M
-new-simple-spec = tie.close (tie.spec new-simple-requires new-requires returns)
+new-simple-spec = tie.close (tie.spec (λ c κs. search needs) (λ c κs. search needs) returns)

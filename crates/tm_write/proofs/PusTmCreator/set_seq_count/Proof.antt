@@ -6,14 +6,8 @@ use borrow.Author.Needs.{needs}
 use Rattle.tm_write.proofs.PusTmCreator.set_seq_count.Statement.{statement}
 use Rattle.tm_write.proofs.PusTmCreator.set_seq_count.Tie as tie
 
-set-seq-count-requires : tie.Need-set-seq-count-requires
-set-seq-count-requires c κs = search needs
-
-edited-requires : tie.Need-edited-requires
-edited-requires c κs = search needs
-
 returns : tie.Need-returns
 returns c = c .edited .ensures ∙ edit-in (withHeader (c .before .before .before .args .self)) _ _ _ _ (c .before .set-seq-count .ensures)
 
 pub set-seq-count-spec : {M : Type 1} → statement M
-set-seq-count-spec = tie.close (tie.spec set-seq-count-requires edited-requires returns)
+set-seq-count-spec = tie.close (tie.spec (λ c κs. search needs) (λ c κs. search needs) returns)

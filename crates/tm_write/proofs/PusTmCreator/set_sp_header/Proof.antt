@@ -4,18 +4,9 @@ use borrow.Author.Needs.{needs}
 use Rattle.tm_write.proofs.PusTmCreator.set_sp_header.Statement.{statement}
 use Rattle.tm_write.proofs.PusTmCreator.set_sp_header.Tie as tie
 
-check-requires : tie.Need-check-requires
-check-requires c κs = search needs
-
-with-header-requires : tie.Need-with-header-requires
-with-header-requires c κs = search needs
-
-kept-if-requires : tie.Need-kept-if-requires
-kept-if-requires c κs = search needs
-
 returns : tie.Need-returns
 returns c = kept-by _ _ _ _ _ _ (c .kept-if .ensures) (c .before .before .check .ensures) (c .before .with-header .ensures)
 
 pub set-sp-header-spec : {M : Type 1} → statement M
 set-sp-header-spec =
-    tie.close (tie.spec check-requires with-header-requires kept-if-requires returns)
+    tie.close (tie.spec (λ c κs. search needs) (λ c κs. search needs) (λ c κs. search needs) returns)

@@ -9,18 +9,6 @@ use borrow.Author.Needs.{needs}
 use Rattle.tm_write.proofs.PusTmCreator.update_ccsds_data_len.Statement.{statement}
 use Rattle.tm_write.proofs.PusTmCreator.update_ccsds_data_len.Tie as tie
 
-asks-requires : tie.Need-asks-requires
-asks-requires c κs = search needs
-
-min-len-without-source-data-requires : tie.Need-min-len-without-source-data-requires
-min-len-without-source-data-requires c κs = search needs
-
-length-afresh-requires : tie.Need-length-afresh-requires
-length-afresh-requires c κs = search needs
-
-edited-requires : tie.Need-edited-requires
-edited-requires c κs = search needs
-
 returns : tie.Need-returns
 returns c =
     let m = c .before .before in
@@ -35,8 +23,8 @@ pub update-ccsds-data-len-spec : {M : Type 1} → statement M
 update-ccsds-data-len-spec =
     tie.close
     (tie.spec
-    asks-requires
-    min-len-without-source-data-requires
-    length-afresh-requires
-    edited-requires
+    (λ c κs. search needs)
+    (λ c κs. search needs)
+    (λ c κs. search needs)
+    (λ c κs. search needs)
     returns)

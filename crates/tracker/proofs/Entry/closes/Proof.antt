@@ -4,17 +4,11 @@ use borrow.Author.Needs.{needs}
 use Rattle.tracker.proofs.Entry.closes.Statement.{statement}
 use Rattle.tracker.proofs.Entry.closes.Tie as tie
 
-ends-requires : tie.Need-ends-requires
-ends-requires c κs = search needs
-
 returns : tie.Need-returns
 returns c = simp (sym (c .before .ends .ensures) ∙ c .if1 .taken)
-
-all-come-requires : tie.Need-all-come-requires
-all-come-requires c κs = search needs
 
 returns-2 : tie.Need-returns-2
 returns-2 c = simp (sym (c .before .before .ends .ensures) ∙ c .before .if1 .left, c .all-come .ensures)
 
 pub closes-spec : {M : Type 1} → statement M
-closes-spec = tie.close (tie.spec ends-requires returns all-come-requires returns-2)
+closes-spec = tie.close (tie.spec (λ c κs. search needs) returns (λ c κs. search needs) returns-2)

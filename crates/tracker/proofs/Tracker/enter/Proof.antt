@@ -10,31 +10,16 @@ use borrow.Author.Needs.{needs}
 use Rattle.tracker.proofs.Tracker.enter.Statement.{statement}
 use Rattle.tracker.proofs.Tracker.enter.Tie as tie
 
-taken-requires : tie.Need-taken-requires
-taken-requires c κs = search needs
-
 returns : tie.Need-returns
 returns c =
     let a = c .before .before .args in
     let h = c .before .if1 .taken in
     taken-is _ (a .self) _ _ (c .taken .ensures ∙ ap (λ t. record { tracker = t; result = _ }) (sym (opened-nothing (a .self) (a .id) (a .asked) h))) (open-nothing _ (a .id) (a .asked) h)
 
-is-open-requires : tie.Need-is-open-requires
-is-open-requires c κs = search needs
-
-refused-requires : tie.Need-refused-requires
-refused-requires c κs = search needs
-
 returns-2 : tie.Need-returns-2
 returns-2 c =
     let a = c .before .before .before .before .args in
     refused-is _ (a .self) _ _ _ (c .refused .ensures) (open-already _ (a .id) (a .asked) (c .before .before .before .if1 .left) (sym (c .before .before .is-open .ensures) ∙ c .before .if2 .taken))
-
-used-requires : tie.Need-used-requires
-used-requires c κs = search needs
-
-refused-requires-2 : tie.Need-refused-requires-2
-refused-requires-2 c κs = search needs
 
 returns-3 : tie.Need-returns-3
 returns-3 c =
@@ -44,12 +29,6 @@ returns-3 c =
     let k : 32 ≤ length (idsOf (entriesOf (a .self))) = omega (arith, c .before .if3 .taken) in
     refused-is _ (a .self) _ _ _ (c .refused2 .ensures)
     (open-full _ (a .id) (a .asked) (c .before .before .before .before .before .if1 .left) (sym (c .before .before .before .before .is-open .ensures) ∙ c .before .before .before .if2 .left) k)
-
-add-requires : tie.Need-add-requires
-add-requires c κs = search needs
-
-taken-requires-2 : tie.Need-taken-requires-2
-taken-requires-2 c κs = search needs
 
 returns-4 : tie.Need-returns-4
 returns-4 c =
@@ -65,14 +44,14 @@ pub enter-spec : {M : Type 1} → statement M
 enter-spec =
     tie.close
     (tie.spec
-    taken-requires
+    (λ c κs. search needs)
     returns
-    is-open-requires
-    refused-requires
+    (λ c κs. search needs)
+    (λ c κs. search needs)
     returns-2
-    used-requires
-    refused-requires-2
+    (λ c κs. search needs)
+    (λ c κs. search needs)
     returns-3
-    add-requires
-    taken-requires-2
+    (λ c κs. search needs)
+    (λ c κs. search needs)
     returns-4)

@@ -9,19 +9,10 @@ use borrow.Author.Needs.{needs}
 use Rattle.tracker.proofs.Tracker.leave.Statement.{statement}
 use Rattle.tracker.proofs.Tracker.leave.Tie as tie
 
-add-requires : tie.Need-add-requires
-add-requires c κs = search needs
-
 returns : tie.Need-returns
 returns c =
     let a = c .before .before .before .args in
     c .add .ensures ∙ ap (λ x. holding (a .self) (entriesOf (a .self) ++ x)) (sym (left-other (a .id) (a .subtype) (a .e) (c .before .if1 .taken)))
-
-noted-requires : tie.Need-noted-requires
-noted-requires c κs = search needs
-
-closes-requires : tie.Need-closes-requires
-closes-requires c κs = search needs
 
 returns-2 : tie.Need-returns-2
 returns-2 c =
@@ -31,9 +22,6 @@ returns-2 c =
     let k = sym (c .before .closes .ensures) ∙ c .if2 .taken in
     holding-same (a .self) n (c .before .before .before .before .before .pre)
     ∙ ap (λ x. holding (a .self) (entriesOf (a .self) ++ x)) (sym (e ∙ ap (λ b. pick b [] (c .before .before .noted .result ∷ [])) k))
-
-add-requires-2 : tie.Need-add-requires-2
-add-requires-2 c κs = search needs
 
 returns-3 : tie.Need-returns-3
 returns-3 c =
@@ -46,10 +34,10 @@ pub leave-spec : {M : Type 1} → statement M
 leave-spec =
     tie.close
     (tie.spec
-    add-requires
+    (λ c κs. search needs)
     returns
-    noted-requires
-    closes-requires
+    (λ c κs. search needs)
+    (λ c κs. search needs)
     returns-2
-    add-requires-2
+    (λ c κs. search needs)
     returns-3)

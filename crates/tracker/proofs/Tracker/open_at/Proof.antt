@@ -4,15 +4,6 @@ use borrow.Author.Needs.{needs}
 use Rattle.tracker.proofs.Tracker.open_at.Statement.{statement}
 use Rattle.tracker.proofs.Tracker.open_at.Tie as tie
 
-used-requires : tie.Need-used-requires
-used-requires c κs = search needs
-
-mul-e : tie.Need-mul-e
-mul-e c = search needs
-
-array-copy-out-e : tie.Need-array-copy-out-e
-array-copy-out-e c = search needs
-
 returns : tie.Need-returns
 returns c =
     let k = c .before .before .before in
@@ -22,4 +13,4 @@ returns-2 : tie.Need-returns-2
 returns-2 c = request-none (c .before .before .args .self) _ (c .before .before .args .i) (c .before .used .ensures) (c .if1 .left)
 
 pub open-at-spec : {M : Type 1} → statement M
-open-at-spec = tie.close (tie.spec used-requires mul-e array-copy-out-e returns returns-2)
+open-at-spec = tie.close (tie.spec (λ c κs. search needs) (λ c. search needs) (λ c. search needs) returns returns-2)

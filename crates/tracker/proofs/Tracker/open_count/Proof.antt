@@ -5,11 +5,8 @@ use borrow.Author.Needs.{needs}
 use Rattle.tracker.proofs.Tracker.open_count.Statement.{statement}
 use Rattle.tracker.proofs.Tracker.open_count.Tie as tie
 
-used-requires : tie.Need-used-requires
-used-requires c κs = search needs
-
 returns : tie.Need-returns
 returns c = c .used .ensures .is ∙ sym (ids-length _)
 
 pub open-count-spec : {M : Type 1} → statement M
-open-count-spec = tie.close (tie.spec used-requires returns)
+open-count-spec = tie.close (tie.spec (λ c κs. search needs) returns)

@@ -7,30 +7,6 @@ use borrow.Author.Needs.{needs}
 use Rattle.tracker.proofs.Tracker.report.Statement.{statement}
 use Rattle.tracker.proofs.Tracker.report.Tie as tie
 
-judge-requires : tie.Need-judge-requires
-judge-requires c κs = search needs
-
-enum-told : tie.Need-enum-told
-enum-told c = search needs
-
-refused-requires : tie.Need-refused-requires
-refused-requires c κs = search needs
-
-enum-known-verdict : tie.Need-enum-known-verdict
-enum-known-verdict c = search needs
-
-source-data-requires : tie.Need-source-data-requires
-source-data-requires c κs = search needs
-
-service-type-id-requires : tie.Need-service-type-id-requires
-service-type-id-requires c κs = search needs
-
-message-subtype-id-requires : tie.Need-message-subtype-id-requires
-message-subtype-id-requires c κs = search needs
-
-told-requires : tie.Need-told-requires
-told-requires c κs = search needs
-
 returns : tie.Need-returns
 unfolding reportTo
 returns c =
@@ -51,13 +27,13 @@ pub report-spec : {M : Type 1} → statement M
 report-spec =
     tie.close
     (tie.spec
-    judge-requires
-    enum-told
-    refused-requires
-    enum-known-verdict
-    source-data-requires
-    service-type-id-requires
-    message-subtype-id-requires
-    told-requires
+    (λ c κs. search needs)
+    (λ c. search needs)
+    (λ c κs. search needs)
+    (λ c. search needs)
+    (λ c κs. search needs)
+    (λ c κs. search needs)
+    (λ c κs. search needs)
+    (λ c κs. search needs)
     returns
     returns-2)

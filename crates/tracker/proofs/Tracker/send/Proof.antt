@@ -7,27 +7,6 @@ use borrow.Author.Needs.{needs}
 use Rattle.tracker.proofs.Tracker.send.Statement.{statement}
 use Rattle.tracker.proofs.Tracker.send.Tie as tie
 
-judge-requires : tie.Need-judge-requires
-judge-requires c κs = search needs
-
-enum-known-verdict : tie.Need-enum-known-verdict
-enum-known-verdict c = search needs
-
-refused-requires : tie.Need-refused-requires
-refused-requires c κs = search needs
-
-enum-known-verdict-2 : tie.Need-enum-known-verdict-2
-enum-known-verdict-2 c = search needs
-
-request-of-requires : tie.Need-request-of-requires
-request-of-requires c κs = search needs
-
-raw-value-requires : tie.Need-raw-value-requires
-raw-value-requires c κs = search needs
-
-enter-requires : tie.Need-enter-requires
-enter-requires c κs = search needs
-
 returns : tie.Need-returns
 unfolding sendOf
 returns c =
@@ -45,12 +24,12 @@ pub send-spec : {M : Type 1} → statement M
 send-spec =
     tie.close
     (tie.spec
-    judge-requires
-    enum-known-verdict
-    refused-requires
-    enum-known-verdict-2
-    request-of-requires
-    raw-value-requires
-    enter-requires
+    (λ c κs. search needs)
+    (λ c. search needs)
+    (λ c κs. search needs)
+    (λ c. search needs)
+    (λ c κs. search needs)
+    (λ c κs. search needs)
+    (λ c κs. search needs)
     returns
     returns-2)

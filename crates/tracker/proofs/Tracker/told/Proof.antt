@@ -8,27 +8,12 @@ use borrow.Author.Needs.{needs}
 use Rattle.tracker.proofs.Tracker.told.Statement.{statement}
 use Rattle.tracker.proofs.Tracker.told.Tie as tie
 
-is-report-requires : tie.Need-is-report-requires
-is-report-requires c κs = search needs
-
-refused-requires : tie.Need-refused-requires
-refused-requires c κs = search needs
-
 returns : tie.Need-returns
 unfolding reportTo
 returns c =
     let a = c .before .before .before .before .args in
     refused-is _ (a .self) _ _ _ (c .refused .ensures)
     (check-refused _ _ _ (report-none (a .service) (a .subtype) (a .«data» .now) (sym (c .before .before .is-report .ensures) ∙ not-true _ (c .before .if1 .taken))))
-
-request-of-requires : tie.Need-request-of-requires
-request-of-requires c κs = search needs
-
-is-open-requires : tie.Need-is-open-requires
-is-open-requires c κs = search needs
-
-refused-requires-2 : tie.Need-refused-requires-2
-refused-requires-2 c κs = search needs
 
 returns-2 : tie.Need-returns-2
 unfolding reportTo
@@ -39,12 +24,6 @@ returns-2 c =
     let r = report-some (a .service) (a .subtype) (a .«data» .now) (sym (c .before .before .before .before .before .is-report .ensures) ∙ not-false _ (c .before .before .before .before .if1 .left)) in
     refused-is _ (a .self) _ _ _ (c .refused2 .ensures)
     (check-closed ids _ _ r (ap (λ x. among x ids) (sym e) ∙ sym (c .before .before .is-open .ensures) ∙ not-true _ (c .before .if2 .taken)))
-
-after-requires : tie.Need-after-requires
-after-requires c κs = search needs
-
-taken-requires : tie.Need-taken-requires
-taken-requires c κs = search needs
 
 returns-3 : tie.Need-returns-3
 unfolding reportTo
@@ -61,13 +40,13 @@ pub told-spec : {M : Type 1} → statement M
 told-spec =
     tie.close
     (tie.spec
-    is-report-requires
-    refused-requires
+    (λ c κs. search needs)
+    (λ c κs. search needs)
     returns
-    request-of-requires
-    is-open-requires
-    refused-requires-2
+    (λ c κs. search needs)
+    (λ c κs. search needs)
+    (λ c κs. search needs)
     returns-2
-    after-requires
-    taken-requires
+    (λ c κs. search needs)
+    (λ c κs. search needs)
     returns-3)

@@ -12,36 +12,12 @@ use Rattle.tc_strict.proofs.split.Cursor.step_in.Tie as tie
 returns : tie.Need-returns
 returns c = sym (step-end _ _ _ (c .if1 .taken))
 
-sub-rest : tie.Need-sub-rest
-sub-rest c = search needs
-
-part-rest-start : tie.Need-part-rest-start
-part-rest-start c = search needs
-
-part-rest-end : tie.Need-part-rest-end
-part-rest-end c = search needs
-
-tail-requires : tie.Need-tail-requires
-tail-requires c κs = search needs
-
 returns-2 : tie.Need-returns-2
 returns-2 c =
     let s = c .before .before .before .before .before .args .capture .now in
     let at = c .before .before .before .before .before .args .self .at in
     let h = rw (rest-is s at) at (c .before .if2 .taken) in
     ap stepAnswer (c .tail .ensures) ∙ sym (step-tail _ s at (c .before .before .before .if1 .left) (too-short (drop at s) h))
-
-word-at-requires : tie.Need-word-at-requires
-word-at-requires c κs = search needs
-
-cast-total : tie.Need-cast-total
-cast-total c = search needs
-
-add-total : tie.Need-add-total
-add-total c = search needs
-
-tail-requires-2 : tie.Need-tail-requires-2
-tail-requires-2 c κs = search needs
 
 returns-3 : tie.Need-returns-3
 returns-3 c =
@@ -53,12 +29,6 @@ returns-3 c =
 
 slice-aggregate-packet : tie.Need-slice-aggregate-packet
 slice-aggregate-packet c = sym (length-take-le _ _ (c .before .if3 .left))
-
-judge-in-requires : tie.Need-judge-in-requires
-judge-in-requires c κs = search needs
-
-add-t11 : tie.Need-add-t11
-add-t11 c = search needs
 
 returns-4 : tie.Need-returns-4
 returns-4 c =
@@ -74,17 +44,17 @@ step-in-spec =
     tie.close
     (tie.spec
     returns
-    sub-rest
-    part-rest-start
-    part-rest-end
-    tail-requires
+    (λ c. search needs)
+    (λ c. search needs)
+    (λ c. search needs)
+    (λ c κs. search needs)
     returns-2
-    word-at-requires
-    cast-total
-    add-total
-    tail-requires-2
+    (λ c κs. search needs)
+    (λ c. search needs)
+    (λ c. search needs)
+    (λ c κs. search needs)
     returns-3
     slice-aggregate-packet
-    judge-in-requires
-    add-t11
+    (λ c κs. search needs)
+    (λ c. search needs)
     returns-4)
