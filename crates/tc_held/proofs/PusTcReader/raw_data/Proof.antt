@@ -14,15 +14,14 @@ use ghost.Atoms.{Atoms}
 use contract.Monad.{Fun}
 use contract.Running.{givenOf, tables}
 use types.Kit.{Given, ‵, _⊛_, _$_, _∵_, !, qed, by, move, use1, split, fsplit, fjoin, suffices, frame, done}
-use types.Part.{whole, sub, look-in}
 use types.Run.{look, init, forget, stop, fld, from, load, of-opd, assigns, returns, enter, alloc1, alloc0, params1, pass1, pass0, free1, free0}
 use denote.RattleType.{owns}
 use denote.Ref.{NamedLft}
 use denote.Signature.{Slot, namedLft}
 use denote.Triple.Walked.{says, ends-at}
 use Rattle.tc_held.specs.declared.PusTcReader.{PusTcReader}
-use Rattle.tc_held.proofs.Reader.{mach, rawVal, Own, Raw, raw-out}
-use Rattle.tc_held.proofs.OneReader.{B, stayed, Entry, Post, typedAt, meets}
+use Rattle.tc_held.proofs.Reader.{rawTy, mach, typed-at, rawVal, Own, Raw, raw-out, raw-at}
+use Rattle.tc_held.proofs.OneReader.{B, stayed, Entry, Post, meets}
 use Rattle.tc_held.proofs.PusTcReader.Laws as T′
 use Rattle.tc_held.proofs.PusTcReader.raw_data.Key.{name as #name}
 use Rattle.tc_held.proofs.PusTcReader.raw_data as this
@@ -48,7 +47,7 @@ module _ {M : Type 1} (𝓤 : URA M) (H : Heap 𝓤) (A : Atoms 𝓤) (W : Given
     walk wt =
         qed W ((‵ (flft κ q) ⊛ ‵ ftrue) ∷ ‵ (owns (B (κ, tt) ∷ []) (d, tt) (mach α d ∷ [], tt)) ∷ []) ∵ enter ! C Λ code.function (mach α d ∷ []) _ $
         alloc1 ! (λ l₀. alloc1 ! (λ l₁. alloc0 ! $ params1 ! $ pass1 ! (init ! 0 refl wt) $ pass0 ! $
-        assigns ! (of-opd ! (load ! (from ! (fld ! {d = 0} refl (stop !))) (look-in ! 0 (sub ! 0 {d = 0} refl (whole !))))) (from ! (stop !)) (init ! 2 refl (tt, wt .1 .0)) $
+        assigns ! (of-opd ! (load ! (from ! (fld ! {τ = rawTy (named 0)} {d = 0} refl (stop !))) (raw-at α d ! 0 refl))) (from ! (stop !)) (init ! 2 refl (tt, wt .1 .0)) $
         returns ! (look ! 2 refl) $ forget ! 0 refl $ forget ! 2 refl $ move ! (2 ∷ 3 ∷ []) $ free1 ! $ free1 ! $ free0 ! $ by ! exits))
 
 pub raw-data-spec : {M : Type 1} → stated.statement M
@@ -56,4 +55,4 @@ unfolding code.routine
 raw-data-spec 𝓤 H 𝓜 𝓖 𝓡 =
     meets R 𝓤 H 𝓜 𝓖 𝓡 code.env (this.clauses 𝓤 H (𝓖 .A) (𝓜 .mem) (𝓡 .run)) #name code.function (code.unfolded 𝓤 H 𝓜 𝓡)
     (λ κ q d g p. walk 𝓤 H (𝓖 .A) (givenOf 𝓤 H 𝓜 𝓖) (𝓜 .mem) (𝓡 .run) κ q d (tables 𝓤 H 𝓜 𝓡 code.env .C) (tables 𝓤 H 𝓜 𝓡 code.env .Λ)
-    (typedAt 𝓤 H (𝓖 .A) (givenOf 𝓤 H 𝓜 𝓖) κ d p))
+    (typed-at (namedLft 1 0 tt (κ, tt)) d 𝓤 H (𝓖 .A) (givenOf 𝓤 H 𝓜 𝓖) p))

@@ -21,7 +21,8 @@ use denote.Struct.Laws as LL
 use Rattle.tc_held.specs.declared.PusTcReader.{PusTcReader}
 use Rattle.tc_header.proofs.PusTcSecondaryHeader as P
 use Rattle.tc_header.proofs.PusTcSecondaryHeader.Laws as P′
-use Rattle.tc_held.proofs.OneReader.{B, machAt, typedAt, Entry, Post, meets, handed}
+use Rattle.tc_held.proofs.Reader.{typed-at}
+use Rattle.tc_held.proofs.OneReader.{B, machAt, Entry, Post, meets, handed}
 use Rattle.tc_held.proofs.PusTcReader as T
 use Rattle.tc_held.proofs.PusTcReader.Laws as T′
 use Rattle.tc_held.proofs.PusTcReader.sec_header.Key.{name as #name}
@@ -38,7 +39,7 @@ module _ {M : Type 1} (𝓤 : URA M) (H : Heap 𝓤) (A : Atoms 𝓤) (W : Given
   walk p =
       let g : Is P.the-row (d .«sec_header») (v ∷ []) = LL.owed (T.the-type (namedLft 1 0 tt (κ, tt))) (T′.the-laws (namedLft 1 0 tt (κ, tt))) d _ p .1 .1 .0 in
       qed W ((‵ (flft κ q) ⊛ ‵ ftrue) ∷ ‵ (owns (B (κ, tt) ∷ []) (d, tt) (machAt κ d ∷ [], tt)) ∷ []) ∵ enter ! C Λ code.function (machAt κ d ∷ []) _ $
-      alloc1 ! (λ l₀. alloc1 ! (λ l₁. alloc0 ! $ params1 ! $ pass1 ! (init ! 0 refl (typedAt 𝓤 H A W κ d p)) $ pass0 ! $
+      alloc1 ! (λ l₀. alloc1 ! (λ l₁. alloc0 ! $ params1 ! $ pass1 ! (init ! 0 refl (typed-at (namedLft 1 0 tt (κ, tt)) d 𝓤 H A W p)) $ pass0 ! $
       assigns ! (of-opd ! (load ! (from ! (fld ! {τ = P′.mir} {d = 28} refl (stop !))) (look-in ! 0 {τ = P′.mir} (sub ! 2 {τ = P′.mir} {d = 28} refl (whole !))))) (from ! (stop !)) (init ! 2 refl (LL.lawful P.the-type P′.the-laws 𝓤 H A W .typed (d .«sec_header») _ g .0)) $
       returns ! (look ! 2 refl) $ forget ! 0 refl $ forget ! 2 refl $ move ! (2 ∷ 3 ∷ []) $ free1 ! $ free1 ! $ free0 ! $ by ! (handed P.the-row (λ r. r .«sec_header») 𝓤 H A W (LL.makes P.the-type P′.the-plain 𝓤 H A) κ q d v g)))
 
