@@ -4,6 +4,7 @@
 For each name below it writes NAME.requests and NAME.answers, a line each, into the given folder. The same lines come
 out at every run.
 
+    examples  the first examples of docs/PROTOCOL.md: checksums, primary headers, acknowledgement flags, constants
     crc      the published vectors and random messages of every length from 0 to 300, of 4,096 and of 65,542 octets
     header   the primary header read and written: each field at its edges and over them, buffers of 0 to 8 octets
     write    creator, builder, reserved writer: the edges, edits, defaults, and two refusals at once in each pair
@@ -1309,10 +1310,19 @@ def profile_grammar():
         yield f'pbuild {setters} - {zeros(13)}'
 
 
-FILES = {'crc': crc_requests, 'header': header_requests, 'write': write_requests, 'limits': limits_requests,
-         'read': read_requests, 'strict': strict_requests, 'grammar': grammar_requests, 'pus_a': pus_a_requests,
-         'telemetry': telemetry_requests, 'track': track_requests, 'best': best_requests, 'spare': spare_requests,
-         'params': params_requests, 'profile': profile_requests, 'gaps': gaps_requests}
+def examples_requests(_):
+    yield from ('crc -', 'crc 00', 'crc FFFF', 'crc ff', 'verify 1923C00500062F11010000616D 616D',
+                'verify 1923C00500062F11010000616D 0000', 'verify 1923C00500062F11010000616C 0000', 'verify - ABCD', 'verify FF ABCD',
+                'verify FFFF 12', 'sphread 1923C0050006', 'sphread FFFFFFFFFFFF00', 'sphread 1923C00500', 'sphread -',
+                'sphwrite 0,1,1,291,3,5,6 0000000000000000', 'sphwrite 7,0,0,2047,0,16383,65535 AAAAAAAAAAAA',
+                'sphwrite 0,1,1,291,3,5,6 0102', 'sphwrite 0,1,1,291,3,5,6 -', 'sphwrite 8,1,1,2048,3,5,6 0102', 'ack 9', 'ack 16',
+                'ack 256', 'consts')
+
+
+FILES = {'examples': examples_requests, 'crc': crc_requests, 'header': header_requests, 'write': write_requests,
+         'limits': limits_requests, 'read': read_requests, 'strict': strict_requests, 'grammar': grammar_requests,
+         'pus_a': pus_a_requests, 'telemetry': telemetry_requests, 'track': track_requests, 'best': best_requests,
+         'spare': spare_requests, 'params': params_requests, 'profile': profile_requests, 'gaps': gaps_requests}
 
 
 def main():

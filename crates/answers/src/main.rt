@@ -1,4 +1,29 @@
-// Answers the requests of standard input, a line for each.
+// Answers the requests of each file that an argument names, one file after the other; with no argument those of standard input.
+fn one(i: usize) {
+    let mut path = io::buffer();
+    let n = os::arg(i, &mut path);
+    let fd = os::open_read(&path[..n]);
+    if fd < 0 {
+        os::fail(&path[..n]);
+        return;
+    }
+    protocol::run(fd);
+    libc::close(fd);
+}
+
+// The first of so many arguments is the program's own name.
+fn files(count: usize) {
+    let mut i = 1usize;
+    while i < count {
+        one(i);
+        i += 1;
+    }
+}
+
 fn main() {
-    protocol::run(0);
+    let count = os::arg_count();
+    if count < 2 {
+        return protocol::run(0);
+    }
+    files(count)
 }

@@ -1,221 +1,43 @@
-// One line in, one line out: requests to the library, and its answers. Fields are separated by one space; octets are
-// upper-case hexadecimal, `-` for none. A line that is no request is answered `bad-request`.
-mod best;
-mod checksum;
-mod fields;
-mod header;
-mod items;
-mod parameters;
-mod read;
-mod show;
-mod tailored;
-mod telemetry;
-mod track;
-mod uplink;
-mod verdict;
-mod write;
-
+// One line in, one line out: requests to the library, and its answers (docs/PROTOCOL.md). A line that is no request is answered
+// `bad-request`.
 ghost use mathlib.Core.Path.{_≡_};
 ghost use lib.ListN.{length};
-use tc_header::TcForm;
-use text::Value;
+use protocol_fields::behind;
+use protocol_fields::field;
+use protocol_fields::show;
 
-// The requests before this one only read.
-const SPHWRITE: usize = 9;
-
-// Answers a line. a and b are room for the octets that its fields write.
+// Answers a line. a and b are room for the octets of its fields.
 fn answer(line: &[u8], a: &mut [u8], b: &mut [u8]) {
     reply(line, a, b);
     show::say(b"\n");
 }
 
-// What is asked of: telecommands of a form, or telemetry with a time of so many octets.
-enum Form {
-    Tc(TcForm),
-    Tm(u8),
-}
-
 // Requests are of telecommands of PUS C, unless `in FORM` comes before them.
 fn reply(line: &[u8], a: &mut [u8], b: &mut [u8]) {
-    if check::same(text::piece(line, 32, 0), b"in") {
-        return reply_in(text::piece(line, 32, 1), behind(behind(line)), a, b);
+    if check::same(field(line, 0), b"in") {
+        return reply_in(field(line, 1), behind(behind(line)), a, b);
     }
-    if check::same(text::piece(line, 32, 0), b"track") {
-        return track::reply(line, a);
+    if protocol_uses::reply(line, a, b) {
+        return;
     }
-    if check::same(text::piece(line, 32, 0), b"best") {
-        return best::reply(line, a, b);
-    }
-    if check::same(text::piece(line, 32, 0), b"params") {
-        return parameters::read(line, a);
-    }
-    if check::same(text::piece(line, 32, 0), b"wparams") {
-        return parameters::write(line, a);
-    }
-    if check::same(text::piece(line, 32, 0), b"gaps") {
-        return uplink::reply(line, a, b);
-    }
-    reply_to(Form::Tc(TcForm::PUS_C), kind(line), line, a, b)
+    protocol_tc::reply(line, a, b)
 }
 
+// A form is a letter and a number.
 fn reply_in(form: &[u8], line: &[u8], a: &mut [u8], b: &mut [u8]) {
-    let Value::Is(n) = fields::form_number(form) else {
-        return show::bad();
-    };
-    let letter = fields::form_letter(form);
-    let asked = kind(line);
-    let size = fields::low8(n);
+    let mut good = true;
+    let size = protocol_fields::number8(text::part(form, 1, form.len()), &mut good);
+    if good && 0 < form.len() {
+        return reply_of(form[0], size, line, a, b);
+    }
+    show::bad()
+}
+
+fn reply_of(letter: u8, size: u8, line: &[u8], a: &mut [u8], b: &mut [u8]) {
     match letter {
-        97 => reply_if(in_a(asked), TcForm::pus_a(size), asked, line, a, b),
-        99 => reply_if(in_c(asked), TcForm::pus_c(size), asked, line, a, b),
-        116 => reply_to(Form::Tm(size), tm_kind(line), line, a, b),
-        _ => show::bad(),
-    }
-}
-
-// A request of telecommands, where their edition takes it.
-fn reply_if(taken: bool, form: TcForm, kind: usize, line: &[u8], a: &mut [u8], b: &mut [u8]) {
-    if taken {
-        return reply_to(Form::Tc(form), kind, line, a, b);
-    }
-    show::bad()
-}
-
-// What stands behind the first space.
-fn behind(s: &[u8]) -> &[u8] {
-    let e = text::seek(s, 0, 32);
-    if s.len() <= e {
-        return &s[..0];
-    }
-    &s[e + 1..]
-}
-
-// strict, read, create, build
-fn in_a(kind: usize) -> bool {
-    kind == 2 || kind == 6 || kind == 10 || kind == 11
-}
-
-// Those, and split, cmprr, reserve, cmprc.
-fn in_c(kind: usize) -> bool {
-    in_a(kind) || kind == 3 || kind == 7 || kind == 12 || kind == 13
-}
-
-// The place of a request's first word among these, or how many there are.
-fn kind(line: &[u8]) -> usize {
-    fields::place(
-        text::piece(line, 32, 0),
-        b"crc sphread strict split verify ack read cmprr profile sphwrite create build reserve cmprc simple pbuild consts",
-    )
-}
-
-// The same among the requests of telemetry.
-fn tm_kind(line: &[u8]) -> usize {
-    fields::place(text::piece(line, 32, 0), b"strict read create reserve")
-}
-
-fn reply_to(form: Form, kind: usize, line: &[u8], a: &mut [u8], b: &mut [u8]) {
-    let mut v = [0u64; 20];
-    if asked(form, kind, line, &mut v, a, b) {
-        let n = v[fields::TIME] as usize;
-        let data = text::part(text::part(a, n, a.len()), 0, v[fields::DATA] as usize);
-        return answer_to(form, kind, line, v, text::part(a, 0, n), data, b);
-    }
-    show::bad()
-}
-
-// Whether a line has the fields that its kind asks; they are in the order of the kinds.
-fn asked(
-    form: Form,
-    kind: usize,
-    line: &[u8],
-    v: &mut [u64; 20],
-    a: &mut [u8],
-    b: &mut [u8],
-) -> bool {
-    match form {
-        Form::Tc(_) => fields::read(
-            text::piece(
-                b"a a a a ac 3 ma manb a 0b 0122aeb tab 0152azb mb0122ae 433 pab",
-                32,
-                kind,
-            ),
-            line,
-            v,
-            a,
-            b,
-        ),
-        Form::Tm(_) => fields::read(
-            text::piece(b"a ma 06x22afb 06x52azb", 32, kind),
-            line,
-            v,
-            a,
-            b,
-        ),
-    }
-}
-
-fn answer_to(
-    form: Form,
-    kind: usize,
-    line: &[u8],
-    v: [u64; 20],
-    time: &[u8],
-    data: &[u8],
-    b: &mut [u8],
-) {
-    let n = v[fields::BUF] as usize;
-    if b.len() <= n {
-        return answer_with(form, kind, line, v, time, data, b);
-    }
-    answer_with(form, kind, line, v, time, data, &mut b[0..n])
-}
-
-fn answer_with(
-    form: Form,
-    kind: usize,
-    line: &[u8],
-    v: [u64; 20],
-    time: &[u8],
-    data: &[u8],
-    buf: &mut [u8],
-) {
-    match form {
-        Form::Tm(time_len) => telemetry::answer(time_len, kind, line, v, time, data, buf),
-        Form::Tc(form) => commands(form, kind, line, v, data, buf),
-    }
-}
-
-fn commands(form: TcForm, kind: usize, line: &[u8], v: [u64; 20], data: &[u8], buf: &mut [u8]) {
-    if kind < SPHWRITE {
-        return reads(form, kind, v, data, buf);
-    }
-    writes(form, kind, line, v, data, buf)
-}
-
-fn reads(form: TcForm, kind: usize, v: [u64; 20], data: &[u8], other: &[u8]) {
-    match kind {
-        0 => checksum::checksum(data),
-        1 => header::read(data),
-        2 => verdict::judge(form, data),
-        3 => verdict::split(form, data),
-        4 => checksum::verify(v, data),
-        5 => header::ack(v),
-        6 => read::read(form, v, data),
-        7 => read::compare(form, v, data, other),
-        _ => tailored::judge(data),
-    }
-}
-
-fn writes(form: TcForm, kind: usize, line: &[u8], v: [u64; 20], data: &[u8], buf: &mut [u8]) {
-    match kind {
-        9 => header::write(v, buf),
-        10 => write::create(form, line, v, data, buf),
-        11 => write::build(form, line, v, data, buf),
-        12 => write::reserve(form, v, data, buf),
-        13 => write::compare(form, line, v, data, buf),
-        14 => write::simple(v),
-        15 => tailored::build(line, v, data, buf),
-        16 => header::consts(),
+        b'a' => protocol_tc::reply_in_a(size, line, a, b),
+        b'c' => protocol_tc::reply_in_c(size, line, a, b),
+        b't' => protocol_tm::reply(size, line, a, b),
         _ => show::bad(),
     }
 }
@@ -233,7 +55,7 @@ struct Feed {
 // Where the first line starts that is not passed over: past the end where s has no end of a line.
 fn first(s: &[u8], skip: bool) -> usize {
     if skip {
-        let e = text::seek(s, 0, 10);
+        let e = text::seek(s, 0, b'\n');
         if e < s.len() {
             return e + 1;
         }
@@ -246,7 +68,7 @@ fn first(s: &[u8], skip: bool) -> usize {
 fn lines(s: &[u8], from: usize, a: &mut [u8], b: &mut [u8]) -> usize {
     let mut from = from;
     while from < s.len() {
-        let e = text::seek(s, from, 10);
+        let e = text::seek(s, from, b'\n');
         if s.len() <= e {
             return from;
         }
