@@ -1,4 +1,7 @@
 // Answers the requests of each file that an argument names, one file after the other; with no argument those of standard input.
+mod lines;
+mod requests;
+
 fn one(i: usize) {
     let mut path = io::buffer();
     let n = os::arg(i, &mut path);
@@ -7,7 +10,7 @@ fn one(i: usize) {
         os::fail(&path[..n]);
         return;
     }
-    protocol::run(fd);
+    lines::run(fd);
     libc::close(fd);
 }
 
@@ -23,7 +26,7 @@ fn files(count: usize) {
 fn main() {
     let count = os::arg_count();
     if count < 2 {
-        return protocol::run(0);
+        return lines::run(0);
     }
     files(count)
 }

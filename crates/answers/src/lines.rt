@@ -1,48 +1,8 @@
-// One line in, one line out: requests to the library, and its answers (docs/PROTOCOL.md). A line that is no request is answered
-// `bad-request`.
+// The lines of an input, each of which is answered.
 ghost use mathlib.Core.Path.{_≡_};
 ghost use lib.ListN.{length};
-use protocol_fields::behind;
-use protocol_fields::field;
+use crate::requests;
 use protocol_fields::show;
-
-// Answers a line. a and b are room for the octets of its fields.
-fn answer(line: &[u8], a: &mut [u8], b: &mut [u8]) {
-    reply(line, a, b);
-    show::say(b"\n");
-}
-
-// Requests are of telecommands of PUS C, unless `in FORM` comes before them.
-fn reply(line: &[u8], a: &mut [u8], b: &mut [u8]) {
-    if check::same(field(line, 0), b"in") {
-        return reply_in(field(line, 1), behind(behind(line)), a, b);
-    }
-    if protocol_uses::reply(line, a, b) {
-        return;
-    }
-    protocol_tc::reply(line, a, b)
-}
-
-// A form is a letter and a number.
-fn reply_in(form: &[u8], line: &[u8], a: &mut [u8], b: &mut [u8]) {
-    let mut good = true;
-    let size = protocol_fields::number8(text::part(form, 1, form.len()), &mut good);
-    if good && 0 < form.len() {
-        return reply_of(form[0], size, line, a, b);
-    }
-    show::bad()
-}
-
-fn reply_of(letter: u8, size: u8, line: &[u8], a: &mut [u8], b: &mut [u8]) {
-    match letter {
-        b'a' => protocol_tc::reply_in_a(size, line, a, b),
-        b'c' => protocol_tc::reply_in_c(size, line, a, b),
-        b't' => protocol_tm::reply(size, line, a, b),
-        _ => show::bad(),
-    }
-}
-
-// ---- the lines of an input
 
 // How many octets of the buffer are not answered yet, whether the rest of a line that is too long is being passed over, and
 // whether there may be more to read.
@@ -72,7 +32,7 @@ fn lines(s: &[u8], from: usize, a: &mut [u8], b: &mut [u8]) -> usize {
         if s.len() <= e {
             return from;
         }
-        answer(text::part(s, from, e), a, b);
+        requests::answer(text::part(s, from, e), a, b);
         from = e + 1;
     }
     from
@@ -123,7 +83,7 @@ fn kept(buf: &mut [u8], from: usize, n: usize) -> Feed {
 // At the end of the input the octets that are held, if there are any, are one more line.
 fn last(s: &[u8], a: &mut [u8], b: &mut [u8]) -> Feed {
     if s.len() > 0 {
-        answer(s, a, b);
+        requests::answer(s, a, b);
     }
     Feed {
         held: 0,
@@ -165,10 +125,8 @@ fn buffer() -> [u8; 1048576]
     [0; 1048576]
 }
 
-// Answers the lines that fd has, to its end. No contract can say what is read or written.
-pub fn run(fd: i32)
-    ensures { λ r. ⌜ r ≡ tt ⌝ }
-{
+// Answers the lines that fd has, to its end.
+pub(crate) fn run(fd: i32) {
     let mut buf = buffer();
     let mut a = buffer();
     let mut b = buffer();

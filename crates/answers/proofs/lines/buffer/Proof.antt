@@ -1,9 +1,9 @@
--- `protocol::buffer` meets its contract by a law: to count its zeros takes too long.
+-- `answers::lines::buffer` meets its contract by a law: to count its zeros takes too long.
 use Prim.Native.Nat.{ℕ}
 use mathlib.Core.Path.{sym}
 use lib.ListN.{length-replicate}
-use Rattle.protocol.proofs.buffer.Statement.{statement}
-use Rattle.protocol.proofs.buffer.Tie as tie
+use Rattle.answers.proofs.lines.buffer.Statement.{statement}
+use Rattle.answers.proofs.lines.buffer.Tie as tie
 
 returns : tie.Need-returns
 returns c = sym (length-replicate {A = ℕ} 1048576 0)
