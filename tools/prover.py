@@ -32,7 +32,7 @@ calls = tool("calls")
 # What an error says of a goal that does not hold. Any other says that the proof's text does not fit the code: a label is not there, a
 # rewrite has no occurrence, a form is not covered. That would befall a right program of that shape too.
 FACT = re.compile(
-    r"`[\w-]+`: (?:as printed, the two|computed as far as they go, the two|expected type|`omega`: the goal does not follow"
+    r"`[\w-]+`: (?:as printed, the two|computed as far as they go, the two|expected type|`omega`: the (?:goal|part `\S+` of the goal) does not follow"
     r"|`search`: no proof of|give a proof of that as the last argument)"
 )
 
@@ -90,7 +90,9 @@ class Said(NamedTuple):
         return self.status == 1 and re.search("^logic=not-proved", self.printed, re.M)
 
     def of(self, call):
-        """What is said of a function, in a word: proved, refused at a fact or by shape, or unknown, where only a callee is refused."""
+        """What is said of a function, in a word: proved, refused at a fact or by shape, or unknown, where only a callee is refused. Of a
+        function with no proof file there is no text that might not fit; where `search` leaves another need of it open than the
+        contract, that is a need."""
         said, folder = self.functions.get(call, ""), f"proofs/{call.replace('::', '/')}/Proof.antt"
         own = [text for path, text in self.errors if path == folder]
         if said == "proved":
@@ -98,24 +100,40 @@ class Said(NamedTuple):
         if own:
             return "fact" if call not in self.unlike and all(map(FACT.match, own)) else "shape"
         if "does not close" in said:
-            return "fact" if "`returns" in said else "shape"
+            return "fact" if "`returns" in said else "need"
         return "unknown" if "it calls" in said else "shape"
 
     def fact(self):
-        """Whether some goal of the crate does not hold."""
-        return any(FACT.match(text) for _, text in self.errors) or any(self.of(call) == "fact" for call in self.functions)
+        """Whether some goal of the crate does not hold, in a law or in the proof of a function that has the needs that it had."""
+        fits = [text for path, text in self.errors if path.removeprefix("proofs/").removesuffix("/Proof.antt").replace("/", "::") not in self.unlike]
+        return any(map(FACT.match, fits)) or any(self.of(call) in ("fact", "need") for call in self.functions)
+
+
+def heard(name, printed, folder):
+    """The errors of a check of the crate NAME in a folder, by their files there, and what it says of each function."""
+    # What was not admitted has its error elsewhere, at a callee's proof even.
+    found = re.findall(rf"{folder}/(\S+?\.antt):[\d:]+ error: (.*)", printed)
+    errors = [(path, text) for path, text in found if "was not admitted" not in text]
+    return errors, dict(re.findall(rf"^fn {name}::([\w:]+): (.*)", printed, re.M))
 
 
 def dev(name, where, *words):
     """What `rt dev` says of the crate NAME in a room."""
     began = time.monotonic()
     run = subprocess.run(["rt", "dev", name, *words], cwd=where, stdout=subprocess.PIPE, stderr=subprocess.STDOUT, text=True)
-    # What was not admitted has its error elsewhere, at a callee's proof even.
-    found = re.findall(rf"/crates/{name}/(\S+?\.antt):[\d:]+ error: (.*)", run.stdout)
-    errors = [(path, text) for path, text in found if "was not admitted" not in text]
-    functions = dict(re.findall(rf"^fn {name}::([\w:]+): (.*)", run.stdout, re.M))
+    errors, functions = heard(name, run.stdout, f"/crates/{name}")
     unlike = {call for call in functions if needs(kept(name, where), name, call) != needs(checked(name), name, call)}
     return Said(run.returncode, errors, functions, unlike, run.stdout, time.monotonic() - began)
+
+
+def by_rt(name, edit):
+    """What `rt ci` was told of the crate NAME with an edit of its must-fail/; None where it has not tried it."""
+    log = ROOT / "target/must-fail" / name / edit / ".log"
+    if not log.exists():
+        return None
+    printed = log.read_text()
+    errors, functions = heard(name, printed, f"/must-fail/{name}/{edit}")
+    return Said(1, errors, functions, set(), printed, 0)
 
 
 def functions_of(source):

@@ -59,10 +59,21 @@ module _ (f : TcForm) (x : PusTcSecondaryHeader) (n : ℕ) where
 pub fields-c : (x : PusTcSecondaryHeader) → fieldsCheck formC x ≡ ackCheck (x .«ack_flags»)
 fields-c x = then-same (ackCheck (x .«ack_flags»))
 
-pub write-c : (x : PusTcSecondaryHeader) (n : ℕ) → secWrite x n ≡ ((ackCheck (x .«ack_flags») then λ _. inBuffer n 5 then λ _. versionCheck (x .version)) then λ _. gives 5)
-unfolding secWriteIn secChecks
-write-c x n =
-    ap (λ (p : Passed). (p then λ _. inBuffer n 5 then λ _. versionCheck (x .version)) then λ _. gives 5) (gives-then _ _ tt taken-c ∙ fields-c x)
+widths-c : (x : PusTcSecondaryHeader) → widthsCheck formC x ≡ ackCheck (x .«ack_flags»)
+widths-c x = gives-then _ _ tt taken-c ∙ fields-c x
+
+-- what a write of PUS C asks and answers, shown by the answers, as above
+abbrev pub WriteC : PusTcSecondaryHeader → ℕ → Type 0
+WriteC x n = secWrite x n ≡ ((ackCheck (x .«ack_flags») then λ _. inBuffer n 5 then λ _. versionCheck (x .version)) then λ _. gives 5)
+
+write-by-answers : (x : PusTcSecondaryHeader) (n : ℕ) (a : Passed) (b : Answer ℕ) → ackCheck (x .«ack_flags») ≡ a → inBuffer n 5 ≡ b → WriteC x n
+unfolding secWriteIn _then_
+write-by-answers x n (refuses e) b p q = rw (p, checks-refused formC x n e (widths-c x ∙ p)) refl
+write-by-answers x n (gives u) (refuses e) p q = rw (p, q, checks-no-room formC x n e (widths-c x ∙ p) q) refl
+write-by-answers x n (gives u) (gives m) p q = rw (p, q, checks-version formC x n m (widths-c x ∙ p) q) refl
+
+pub write-c : (x : PusTcSecondaryHeader) (n : ℕ) → WriteC x n
+write-c x n = write-by-answers x n _ _ refl refl
 
 pub read-c : (s : List ℕ) → secRead s ≡ refuseIf (ltb (length s) 5) (refusal 2 (length s ∷ 5 ∷ [])) (gives (secOf s))
 unfolding secReadIn

@@ -5,9 +5,9 @@ use mathlib.Core.Bool.{true}
 use mathlib.Core.List.{List}
 use Rattle.space_packet.specs.Answer.{Answer, Passed, Numbers, gives, refuses, _then_}
 use Rattle.space_packet.specs.Header.{readHeader}
-use Rattle.ecss.specs.Frame.{statedOf}
-use Rattle.ecss.specs.Kind.{Packet, secondaryOf, strictRule, judge}
-use Rattle.space_packet.proofs.Answers.{gives-then}
+use Rattle.ecss.specs.Frame.{statedOf, checkedOf}
+use Rattle.ecss.specs.Kind.{Packet, startOf, secondaryOf, strictRule, judge}
+use Rattle.space_packet.proofs.Answers.{gives-then, then-gives}
 use Rattle.ecss.proofs.After as After
 use Rattle.tc_header.specs.Form.{formC, formCheck}
 use Rattle.tc_header.specs.Header.{tc, pusC}
@@ -20,13 +20,20 @@ use Rattle.tc_read.proofs.Records.{checked-is, checked-refused}
 use Rattle.tc_strict.specs.Verdict.{strictIn, strictOf}
 
 module _ (f : TcForm) (s : List ℕ) where
+  -- what is judged to be a packet has passed the strict checks
+  passed : (x : Packet PusTcSecondaryHeader) → judge (tc f) s ≡ gives x → strictRule (tc f) (readHeader s) (secondaryOf (tc f .size) s) ≡ gives tt
+  unfolding judge
+  passed x q =
+      let strict = strictRule (tc f) (readHeader s) (secondaryOf (tc f .size) s) in
+      then-gives strict _ x (then-gives (checkedOf (startOf (tc f)) s) _ x q .2) .1
+
   -- by the two answers, and not by how the definition groups them
   by-answers : (a : Passed) (j : Answer (Packet PusTcSecondaryHeader)) → formCheck f ≡ a → judge (tc f) s ≡ j
       → strictIn f s ≡ After.verdictAfter (formCheck f) (tc f) s (recordIn f s true)
   unfolding strictIn _then_
   by-answers (refuses e) j p q = rw p refl
   by-answers (gives u) (refuses e) p q = rw (p, q) refl
-  by-answers (gives u) (gives x) p q = rw (p, q) refl
+  by-answers (gives u) (gives x) p q = simp (p, q, passed x q)
 
   -- where the reader refuses, the verdict is its refusal
   pub verdict-refused : (e : Numbers) → checkedIn f s ≡ refuses e → strictIn f s ≡ refuses e
