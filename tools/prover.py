@@ -1,8 +1,8 @@
 """What the tools that try wrong programs share: a copy of one crate over what is proved already, and what the prover says there.
 
 The prover keeps what it has checked of a crate, module by module. The rlib of a proved crate holds these modules, so a copy of the
-crate that begins with them has only those checked again that a change reaches. Nothing is refused that way that would not be refused
-from nothing: a refusal comes from a module that was checked with the change, and one that was kept in error shows as "still proved".
+crate that begins with them has only those checked again that a change reaches. That the prover finds these is its own matter; a module
+that it kept in error would show as a change that is still proved, or as a twin that is not.
 """
 import importlib.machinery
 import importlib.util
@@ -29,11 +29,11 @@ def tool(name):
 
 calls = tool("calls")
 
-# What an error says of a goal that does not hold. Any other says that the proof's text does not fit the code: a label is not there, a
+# What an error says of a goal that is not reached. Any other says that the proof's text does not fit the code: a label is not there, a
 # rewrite has no occurrence, a form is not covered. That would befall a right program of that shape too.
 FACT = re.compile(
     r"`[\w-]+`: (?:as printed, the two|computed as far as they go, the two|expected type|`omega`: the (?:goal|part `\S+` of the goal) does not follow"
-    r"|`search`: no proof of|give a proof of that as the last argument)"
+    r"|`search`: no proof of|give a proof of that as the last argument|.*\n  ≟ .*\n  does not hold)"
 )
 
 
@@ -90,9 +90,9 @@ class Said(NamedTuple):
         return self.status == 1 and re.search("^logic=not-proved", self.printed, re.M)
 
     def of(self, call):
-        """What is said of a function, in a word: proved, refused at a fact or by shape, or unknown, where only a callee is refused. Of a
-        function with no proof file there is no text that might not fit; where `search` leaves another need of it open than the
-        contract, that is a need."""
+        """What is said of a function, in a word: proved, refused at a fact or by shape, or unknown, where only a callee is refused. A
+        function that `search` proves by itself, with no proof file, has no text that might not fit: it is refused at a fact where its
+        contract is left open, and at a need where something else is that its body asks."""
         said, folder = self.functions.get(call, ""), f"proofs/{call.replace('::', '/')}/Proof.antt"
         own = [text for path, text in self.errors if path == folder]
         if said == "proved":
@@ -104,7 +104,7 @@ class Said(NamedTuple):
         return "unknown" if "it calls" in said else "shape"
 
     def fact(self):
-        """Whether some goal of the crate does not hold, in a law or in the proof of a function that has the needs that it had."""
+        """Whether some goal of the crate is not reached, in a law or in the proof of a function that has the needs that it had."""
         fits = [text for path, text in self.errors if path.removeprefix("proofs/").removesuffix("/Proof.antt").replace("/", "::") not in self.unlike]
         return any(map(FACT.match, fits)) or any(self.of(call) in ("fact", "need") for call in self.functions)
 
@@ -112,26 +112,27 @@ class Said(NamedTuple):
 def heard(name, printed, folder):
     """The errors of a check of the crate NAME in a folder, by their files there, and what it says of each function."""
     # What was not admitted has its error elsewhere, at a callee's proof even.
-    found = re.findall(rf"{folder}/(\S+?\.antt):[\d:]+ error: (.*)", printed)
+    found = re.findall(rf"{folder}/(\S+?\.antt):[\d:]+ error: (.*(?:\n  ≟ .*\n.*)?)", printed)
     errors = [(path, text) for path, text in found if "was not admitted" not in text]
     return errors, dict(re.findall(rf"^fn {name}::([\w:]+): (.*)", printed, re.M))
 
 
-def dev(name, where, *words):
+def dev(name, where):
     """What `rt dev` says of the crate NAME in a room."""
     began = time.monotonic()
-    run = subprocess.run(["rt", "dev", name, *words], cwd=where, stdout=subprocess.PIPE, stderr=subprocess.STDOUT, text=True)
+    run = subprocess.run(["rt", "dev", name], cwd=where, stdout=subprocess.PIPE, stderr=subprocess.STDOUT, text=True)
     errors, functions = heard(name, run.stdout, f"/crates/{name}")
     unlike = {call for call in functions if needs(kept(name, where), name, call) != needs(checked(name), name, call)}
     return Said(run.returncode, errors, functions, unlike, run.stdout, time.monotonic() - began)
 
 
-def by_rt(name, edit):
-    """What `rt ci` was told of the crate NAME with an edit of its must-fail/; None where it has not tried it."""
-    log = ROOT / "target/must-fail" / name / edit / ".log"
-    if not log.exists():
+def told_by_rt(name, edit, texts):
+    """What `rt ci` was told of the crate NAME with an edit of its must-fail/, which makes these texts of its files; None where it has
+    not tried them. The needs are not compared: the checked modules are not kept."""
+    copy = ROOT / "target/must-fail" / name / edit
+    if not (copy / ".log").exists() or any((copy / path).read_text() != text for path, text in texts.items()):
         return None
-    printed = log.read_text()
+    printed = (copy / ".log").read_text()
     errors, functions = heard(name, printed, f"/must-fail/{name}/{edit}")
     return Said(1, errors, functions, set(), printed, 0)
 

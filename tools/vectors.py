@@ -653,10 +653,11 @@ def tm_grammar():
         yield f'in t1 reserve {TM_SP} {PONG} {time} 0 1 - f 00'
     yield f'in t0 create {TM_SP} {PONG} 1 1 - - -'        # no TIME
     yield f'in t0 reserve {TM_SP} {PONG} 0 1 - f -'
-    for edits in ('ack=1', 'source=1', 'status=', 'status', 'status=256', 'status=1,2', 'counter=65536', 'dest=65536',
+    for edits in ('ack=1', 'ack=16', 'ack=255', 'apid=2048;ack=16', 'source=1', 'status=', 'status', 'status=256', 'status=1,2', 'counter=65536', 'dest=65536',
                   'dest=-1', 'Dest=1', 'time=A0', 'msg_counter=1', 'upd=1', 'status=1;', 'status=0015;counter=00007'):
         yield f'in t1 create {TM_SP} {PONG} A0 1 1 - {edits} -'
     yield f'in t17 create {TM_SP} {PONG} A0 1 1 - status=256 -'
+    yield f'in t17 create {TM_SP} {PONG} A0 1 1 - ack=16 -'
     yield f'in a8 create {TM_SP} {PONG} A0 1 1 - - -'
     yield f'in a8 create {TM_SP} 1,15,17,1,0 1 1 - status=1 -'
     yield f'in t1 reserve {TM_SP} {PONG} A0 1 1 0A0B f 00'

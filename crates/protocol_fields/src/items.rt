@@ -137,6 +137,8 @@ pub enum SecEdit {
 pub enum TcEdit {
     Ack(AckFlags),
     Source(u16),
+    // Flags over their width: no edit of telemetry either.
+    Refused(PusError),
 }
 
 // Those of telemetry alone.
@@ -212,15 +214,16 @@ fn edit_ack(n: u64) -> Edit {
     let r = AckFlags::new_with_raw_value(crate::low8(n));
     match r {
         AckFlagsResult::Ok(flags) => Edit::Tc(TcEdit::Ack(flags)),
-        AckFlagsResult::Err(e) => Edit::Refused(e),
+        AckFlagsResult::Err(e) => Edit::Tc(TcEdit::Refused(e)),
     }
 }
 
-// Whether each item is an edit of telemetry, or else of telecommands.
+// Whether each item is an edit of telemetry, or else of telecommands. No item is read behind one that is not: each is sought from
+// the start, and a line may be long.
 pub fn edits(s: &[u8], telemetry: bool, good: &mut bool) {
     let n = count(s);
     let mut k = 0;
-    while k < n {
+    while k < n && *good {
         let e = Edit::read(item(s, k));
         if !e.is_of(telemetry) {
             *good = false;
@@ -390,7 +393,7 @@ impl Setter {
         }
     }
 
-    // Whether it is one of the builder, or else of the profile's, which always has a checksum.
+    // Whether it is one of the profile's builder, which always has a checksum, or else of the other.
     fn is_of(self, profile: bool) -> bool {
         match self {
             Setter::Checksum(_) => !profile,
@@ -405,7 +408,7 @@ pub fn setters(s: &[u8], profile: bool, good: &mut bool) -> bool {
     let n = count(s);
     let mut data = false;
     let mut k = 0;
-    while k < n {
+    while k < n && *good {
         let setter = Setter::read(item(s, k));
         if !setter.is_of(profile) {
             *good = false;

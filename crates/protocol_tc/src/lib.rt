@@ -30,7 +30,7 @@ enum Kind {
 }
 
 // How many fields a line has, its kind among them; and which are its octets, and those that are written to or compared with them;
-// 0 for none.
+// 0 for none. No line has 0 fields, so none has the shape of an unknown kind.
 struct Shape {
     fields: usize,
     data: usize,
@@ -175,6 +175,7 @@ fn answer_to(kind: Kind, form: TcForm, line: &[u8], data: &[u8]) {
         Kind::SphRead => plain::read(data),
         Kind::Simple => write::simple(line),
         Kind::Ack => plain::ack(line),
-        _ => plain::consts(),
+        Kind::Consts => plain::consts(),
+        _ => show::bad(),
     }
 }

@@ -150,6 +150,7 @@ fn edit_own(c: PusTcCreator, edit: TcEdit) -> PusTcCreatorSet {
     match edit {
         TcEdit::Ack(flags) => c.set_ack_flags(flags),
         TcEdit::Source(n) => c.set_source_id(n),
+        TcEdit::Refused(e) => set(c, CheckResult::Err(e)),
     }
 }
 

@@ -1,6 +1,5 @@
 // The requests that read telemetry.
 use protocol_fields::Mode;
-use protocol_fields::field;
 use protocol_fields::has;
 use protocol_fields::octets;
 use protocol_fields::show;

@@ -55,6 +55,7 @@ fn reply_to(kind: Kind, line: &[u8], a: &mut [u8], b: &mut [u8]) {
         Kind::Params => parameters::read(line, a),
         Kind::WriteParams => parameters::write(line, a),
         Kind::Profile => tailored::reply(line, a),
-        _ => listing::reply(line, a),
+        Kind::Gaps => listing::reply(line, a),
+        Kind::Other => {}
     }
 }

@@ -47,7 +47,7 @@ fn rows(s: &[u8], list: &mut [[u16; 3]], good: &mut bool) -> usize {
         *good = false;
     }
     let mut k = 0;
-    while k < n {
+    while k < n && *good {
         row(items::item(s, k), list, k, good);
         k += 1;
     }
@@ -78,7 +78,7 @@ fn first(list: &[[u16; 3]], rows: usize) -> &[[u16; 3]] {
 fn pairs(s: &[u8], good: &mut bool) {
     let n = items::count(s);
     let mut k = 0;
-    while k < n {
+    while k < n && *good {
         pair_of(items::item(s, k), good);
         k += 1;
     }
@@ -172,7 +172,10 @@ fn real(pfc: u16, count: usize, s: &[u8], good: &mut bool) -> Value {
     let r = param_value::read_value(5, pfc, &room);
     match r {
         ValueResult::Ok(value) => value,
-        ValueResult::Err(_) => Value::Unsigned(0),
+        ValueResult::Err(_) => {
+            *good = false;
+            Value::Unsigned(0)
+        }
     }
 }
 

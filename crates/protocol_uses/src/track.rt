@@ -67,7 +67,7 @@ fn fits(act: Act, octets: usize) -> bool {
 fn calls(s: &[u8], room: &mut [u8], good: &mut bool) {
     let n = items::count(s);
     let mut k = 0;
-    while k < n {
+    while k < n && *good {
         call_of(items::item(s, k), room, good);
         k += 1;
     }

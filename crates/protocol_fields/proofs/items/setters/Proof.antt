@@ -25,4 +25,5 @@ setters-spec =
     (λ c. search needs)
     (λ c. search needs)
     (λ c. search needs)
+    (λ c. search needs)
     (λ c. search needs))
