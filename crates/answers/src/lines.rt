@@ -6,7 +6,7 @@ use protocol_fields::show;
 
 // How many octets of the buffer are not answered yet, whether the rest of a line that is too long is being passed over, and
 // whether there may be more to read.
-#[derive(Drop)]
+#[derive(Clone, Copy)]
 struct Feed {
     held: usize,
     skip: bool,

@@ -1,4 +1,6 @@
 // Answers the requests of each file that an argument names, one file after the other; with no argument those of standard input.
+#![tactic(auto)]
+
 mod lines;
 mod requests;
 

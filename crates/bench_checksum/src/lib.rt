@@ -1,4 +1,6 @@
 // What the benchmark links: the checksum in its two forms, for a caller in C.
+#![tactic(auto)]
+
 ghost use Rattle.std.specs.Prelude.{◌≡◌};
 ghost use Rattle.crc_register.specs.Crc.{crc_of};
 

@@ -1,4 +1,6 @@
 // What the benchmark links: a step of the splitter, for a caller in C. In a crate of its own, as in a program that has this one use for it.
+#![tactic(auto)]
+
 ghost use Rattle.std.specs.Prelude.{◌≡◌};
 ghost use Rattle.tc_strict.specs.Split.{step_of};
 ghost use Rattle.bench_split.specs.Numbers.{step_number};

@@ -1,4 +1,6 @@
 // What the benchmark links: the checked read of telemetry, for a caller in C. In a crate of its own, as in a program that has this one use for it.
+#![tactic(auto)]
+
 ghost use Rattle.std.specs.Prelude.{◌≡◌};
 ghost use Rattle.tm_read.specs.Read.{checked_in};
 ghost use Rattle.bench_tm_read.specs.Numbers.{stored_in, sum_of, read_number};

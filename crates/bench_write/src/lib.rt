@@ -1,4 +1,6 @@
 // What the benchmark links: a command made and written, for a caller in C. In a crate of its own, as in a program that has this one use for it.
+#![tactic(auto)]
+
 ghost use Rattle.std.specs.Prelude.{◌≡◌, length};
 ghost use Rattle.space_packet.specs.Header.{left_by};
 ghost use Rattle.tc_write.specs.Creator.{creator_answer};

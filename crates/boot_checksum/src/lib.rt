@@ -1,4 +1,6 @@
 // What a boot image links: the checksum by the table of 16 entries, whole and in parts, for a caller in C (boot/checksum.h).
+#![tactic(auto)]
+
 ghost use Rattle.std.specs.Prelude.{◌≡◌};
 ghost use Rattle.crc_register.specs.Crc.{crc_from, crc_of};
 

@@ -1,4 +1,6 @@
 // Both reports of each capture that an argument names, one after the other.
+#![tactic(auto)]
+
 fn one(i: usize) {
     let mut path = io::buffer();
     let n = os::arg(i, &mut path);

@@ -1,5 +1,7 @@
 // The packet error control of ECSS-E-ST-70-41C, annex B: the checksum that the Rust takes from its crate `crc` as
 // CRC_16_IBM_3740, with a table of 16 entries and with none. No call refuses anything.
+#![tactic(auto)]
+
 ghost use Rattle.std.specs.Prelude.{◌≡◌, []};
 ghost use Rattle.crc_register.specs.Crc.{crc_of};
 ghost use Rattle.crc.specs.Digest.{digest_of, taken, checksum_held};
@@ -19,7 +21,7 @@ pub fn crc_ccitt_false_no_table(data: &[u8]) -> u16
 }
 
 // A checksum on its way: the octets come in several parts, and either form may take each.
-#[derive(Drop)]
+#[derive(Clone, Copy)]
 pub struct Digest {
     register: u16,
 }

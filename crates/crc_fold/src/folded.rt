@@ -13,7 +13,7 @@ ghost use Rattle.crc_fold.specs.Folded.{octs4, lows4, lows16};
 use super::words;
 
 // Four words in hand.
-#[derive(Drop)]
+#[derive(Clone, Copy)]
 struct Four {
     a: u64,
     b: u64,
@@ -22,7 +22,7 @@ struct Four {
 }
 
 // Sixteen words in hand, in four rows.
-#[derive(Drop)]
+#[derive(Clone, Copy)]
 struct Sixteen {
     a: Four,
     b: Four,
@@ -31,7 +31,7 @@ struct Sixteen {
 }
 
 // The words in hand, and the place of the octets to come.
-#[derive(Drop)]
+#[derive(Clone, Copy)]
 struct InHand {
     words: Four,
     at: usize,

@@ -1,4 +1,6 @@
 // The checksum's register with no table: long rows of octets are folded, what is left is taken in by words.
+#![tactic(auto)]
+
 mod folded; // folded.rt: long rows of octets, by folding
 mod words; // words.rt: eight, four and two octets at once
 

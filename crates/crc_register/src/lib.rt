@@ -1,4 +1,6 @@
 // The checksum's register, octet by octet: by a table of 16 entries, and by shifts.
+#![tactic(auto)]
+
 ghost use Rattle.std.specs.Prelude.{◌≡◌, ◌<◌};
 ghost use Rattle.crc_register.specs.Crc.{run, octet_bits, crc_from};
 ghost use Rattle.crc_register.specs.Table.{half_bits, entry};

@@ -1,5 +1,7 @@
 // A ping command at the desk: it is sent, reports on it come, and each time the desk is told what is open. And a parameter command:
 // its data are written by their pairs, and read as such.
+#![tactic(auto)]
+
 use ecss::{CreatorConfig, MessageTypeId};
 use libc::STDOUT_FILENO;
 use param_value::Value;

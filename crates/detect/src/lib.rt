@@ -1,1 +1,2 @@
 // What the checksum detects: theorems only, in proofs/.
+#![tactic(auto)]

@@ -1,5 +1,7 @@
 // What every PUS packet shares, after ECSS-E-ST-70-41C: its version, its message type, the verifying of its checksum, and
 // its frame.
+#![tactic(auto)]
+
 ghost use Rattle.std.specs.Prelude.{◌≡◌, ℕ, ◌<◌};
 ghost use Rattle.crc_register.specs.Crc.{run, octet_bits};
 ghost use Rattle.space_packet.specs.Answer.{check_answer, numbers_of};
@@ -13,14 +15,14 @@ use space_packet::{CheckResult, PacketType, SpHeader};
 pub mod frame;
 
 // All PUS versions; PUS A and PUS C are written.
-#[derive(Drop)]
+#[derive(Clone, Copy)]
 pub enum PusVersion {
     EsaPus,
     PusA,
     PusC,
 }
 
-#[derive(Drop)]
+#[derive(Clone, Copy)]
 pub enum PusVersionResult {
     Ok(PusVersion),
     Err(PusError),
@@ -61,7 +63,7 @@ impl PusVersion {
     }
 }
 
-#[derive(Drop)]
+#[derive(Clone, Copy)]
 pub struct MessageTypeId {
     // The service type.
     pub type_id: u8,
@@ -80,7 +82,7 @@ impl MessageTypeId {
     }
 }
 
-#[derive(Drop)]
+#[derive(Clone, Copy)]
 pub struct CreatorConfig {
     // Whether construction sets the length field.
     pub set_ccsds_len: bool,
@@ -100,7 +102,7 @@ impl CreatorConfig {
 }
 
 // The Rust's Option<u16>: the checksum, where there is one.
-#[derive(Drop)]
+#[derive(Clone, Copy)]
 pub enum Crc16 {
     Some(u16),
     None,

@@ -1,5 +1,7 @@
 // Packets of every kind written, over the octet at which their data starts: totals, lengths, the room for them, and the checksum
 // behind them.
+#![tactic(auto)]
+
 ghost use Rattle.std.specs.Prelude.{◌≡◌, true, ◌++◌, ◌+◌, ◌-◌, ◌^◌, ◌≤◌, length, take, drop};
 ghost use Rattle.space_packet.specs.Answer.{◌then◌, size_answer, in_buffer};
 ghost use Rattle.space_packet.specs.Wrote.{Wrote};
@@ -26,7 +28,7 @@ pub fn total_of(start: usize, data_len: usize, has_checksum: bool) -> SizeResult
     SizeResult::Ok(start + data_len + trailer)
 }
 
-#[derive(Drop)]
+#[derive(Clone, Copy)]
 pub enum DataLenResult {
     Ok(u16),
     Err(PusError),

@@ -16,20 +16,20 @@ use space_packet::{
 
 // What a kind of packet asks of its secondary header: before all others, of its fields after the primary header's, and
 // after the room.
-#[derive(Drop)]
+#[derive(Clone, Copy)]
 pub struct Asks {
     pub first: CheckResult,
     pub fields: CheckResult,
     pub version: CheckResult,
 }
 
-#[derive(Drop)]
+#[derive(Clone, Copy)]
 pub enum CrcResult {
     Ok(u16),
     Err(PusError),
 }
 
-#[derive(Drop)]
+#[derive(Clone, Copy)]
 pub enum ChecksumResult {
     Ok(Crc16),
     Err(PusError),

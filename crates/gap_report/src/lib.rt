@@ -1,4 +1,6 @@
 // The report of tcgaps: the gaps of a capture, one in a line, and its octets that were accepted, refused and left over.
+#![tactic(auto)]
+
 ghost use Rattle.std.specs.Prelude.{◌≡◌, ◌≤◌, length, take};
 ghost use Rattle.io.specs.Counts.{IsPrefixLen};
 ghost use Rattle.text.specs.Page.{page, laid};

@@ -1,4 +1,6 @@
 // Gaps in a recorded uplink: the places of a capture where the sequence count of an APID does not follow its last.
+#![tactic(auto)]
+
 ghost use Rattle.std.specs.Prelude.{◌≡◌, [], ◌∷◌, ◌+◌, ◌<◌, take, set};
 ghost use Rattle.space_packet.specs.Answer.{refusal, numbers_of};
 ghost use Rattle.tc_strict.specs.Split.{step_answer};
@@ -22,35 +24,35 @@ fn max_apids() -> usize
 // ---- what is answered
 
 // The octets of accepted packets, of refused ones and of the tail.
-#[derive(Drop)]
+#[derive(Clone, Copy)]
 pub struct Totals {
     pub accepted: usize,
     pub refused: usize,
     pub tail: usize,
 }
 
-#[derive(Drop)]
+#[derive(Clone, Copy)]
 pub enum TotalsResult {
     Ok(Totals),
     Err(PusError),
 }
 
 // How many rows the list has been given, also where the walk was refused.
-#[derive(Drop)]
+#[derive(Clone, Copy)]
 pub struct Listing {
     pub listed: usize,
     pub result: TotalsResult,
 }
 
 // A row of the list.
-#[derive(Drop)]
+#[derive(Clone, Copy)]
 pub struct Gap {
     pub apid: Apid,
     pub expected: SeqCount,
     pub found: SeqCount,
 }
 
-#[derive(Drop)]
+#[derive(Clone, Copy)]
 pub enum GapResult {
     Ok(Gap),
     Err(PusError),
@@ -94,14 +96,14 @@ impl Gap {
 // ---- where a walk stands
 
 // A command: its APID and its sequence count. Public for the definitions that theorems of other crates cite.
-#[derive(Drop)]
+#[derive(Clone, Copy)]
 pub struct Command {
     apid: Apid,
     count: SeqCount,
 }
 
 // The last command of each of the first `n` APIDs, in the order in which they came first; how many gaps are listed; the totals.
-#[derive(Drop)]
+#[derive(Clone, Copy)]
 struct Scan {
     lasts: [Command; MAX_APIDS],
     n: usize,
@@ -110,14 +112,14 @@ struct Scan {
 }
 
 // What a piece asks for: nothing, a row of the list, or the end of the walk.
-#[derive(Drop)]
+#[derive(Clone, Copy)]
 enum Act {
     On,
     List(u16, u16, u16),
     Stop(PusError),
 }
 
-#[derive(Drop)]
+#[derive(Clone, Copy)]
 struct Turn {
     scan: Scan,
     act: Act,

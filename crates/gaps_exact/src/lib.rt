@@ -1,6 +1,8 @@
 // What the list of gaps tells, as theorems: specs/History.antt and specs/Tells.antt have the words, proofs/ the theorems.
 //
 // They are also proved here of the call itself. The function below is there for its contract, and nothing calls it.
+#![tactic(auto)]
+
 ghost use Rattle.gaps_exact.specs.Tells.{Tells};
 
 use gaps::Listing;

@@ -1,11 +1,13 @@
 // An input read to its end, for the programs on a capture.
+#![tactic(auto)]
+
 ghost use Rattle.std.specs.Prelude.{◌≡◌, length};
 ghost use Rattle.input.specs.Reading.{input_of, Within};
 
 use libc::EINTR;
 
 // What reading came to: so many octets, none at the end of the input, or that it failed.
-#[derive(Drop)]
+#[derive(Clone, Copy)]
 pub enum Input {
     Octets(usize),
     Failed,

@@ -1,5 +1,7 @@
 // One parameter value in octets. ECSS-E-ST-70-41C, 7.3: unsigned (PTC 3) and signed (PTC 4) integers of 1, 2, 3, 4, 6 and 8 octets, and
 // real numbers (PTC 5), single and double.
+#![tactic(auto)]
+
 ghost use Rattle.std.specs.Prelude.{◌≡◌, ◌-◌, ◌^◌, ◌≤◌, ◌<◌, length};
 ghost use Rattle.std.specs.Float.{binary32, binary64};
 ghost use Rattle.std.specs.Float.Ieee.{nan_bits};
@@ -11,7 +13,7 @@ ghost use Rattle.param_value.specs.Values.{octets_for, int_octets, real_octets, 
 use space_packet::{ByteConversionError, PusError, SizeResult};
 
 // A value as the desk reads it. An f32 and an f64 do not keep the bits of a NaN: these have cases of their own.
-#[derive(Drop)]
+#[derive(Clone, Copy)]
 pub enum Value {
     Unsigned(u64),
     Signed(i64),
@@ -21,14 +23,14 @@ pub enum Value {
     DoubleNan(u64),
 }
 
-#[derive(Drop)]
+#[derive(Clone, Copy)]
 pub enum ValueResult {
     Ok(Value),
     Err(PusError),
 }
 
 // The bits of a value, as a number.
-#[derive(Drop)]
+#[derive(Clone, Copy)]
 pub enum PatternResult {
     Ok(u64),
     Err(PusError),

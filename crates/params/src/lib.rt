@@ -1,5 +1,7 @@
 // Parameter commands in engineering form: the application data of the set request, service 20 subtype 3, as pairs of a parameter and its
 // value. Types come from a lent list of the mission's parameters: rows of an ID, its PTC and its PFC, the IDs strictly rising.
+#![tactic(auto)]
+
 ghost use Rattle.std.specs.Prelude.{◌≡◌, true, [], ◌++◌, suc, ◌+◌, ◌≤◌, ◌<◌, length, take, drop, get_or};
 ghost use Rattle.space_packet.specs.Answer.{check_answer, size_answer};
 ghost use Rattle.param_value.specs.Octets.{given_by};
@@ -11,47 +13,47 @@ use param_value::{PatternResult, Value, ValueResult};
 use space_packet::{ByteConversionError, CheckResult, PusError, SizeResult};
 
 // A parameter and its value.
-#[derive(Drop)]
+#[derive(Clone, Copy)]
 pub struct Pair {
     pub id: u16,
     pub value: Value,
 }
 
 // The pairs of a request: the first `count`, which is an octet, as in the request, and so never more than the places.
-#[derive(Drop)]
+#[derive(Clone, Copy)]
 pub struct Params {
     pairs: [Pair; 255],
     count: u8,
 }
 
 // Whether a pair was taken, and the record: as it was where it was not.
-#[derive(Drop)]
+#[derive(Clone, Copy)]
 pub struct ParamsSet {
     pub params: Params,
     pub result: CheckResult,
 }
 
 // What reading answers, and the pairs that it read: none where it was refused.
-#[derive(Drop)]
+#[derive(Clone, Copy)]
 pub struct ParamsRead {
     pub params: Params,
     pub result: CheckResult,
 }
 
-#[derive(Drop)]
+#[derive(Clone, Copy)]
 pub enum PairAt {
     Some(Pair),
     None,
 }
 
 // A pair that was read, and where it ends.
-#[derive(Drop)]
+#[derive(Clone, Copy)]
 struct Found {
     pair: Pair,
     end: usize,
 }
 
-#[derive(Drop)]
+#[derive(Clone, Copy)]
 enum FoundResult {
     Ok(Found),
     Err(PusError),

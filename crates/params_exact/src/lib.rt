@@ -3,6 +3,8 @@
 //
 // Both are also proved here of the calls themselves: the functions below take one pair more, write a request and read it again, read one
 // and write it again, receive a command and send one. They are there for their contracts, and nothing calls them.
+#![tactic(auto)]
+
 ghost use Rattle.std.specs.Prelude.{◌≡◌, List, ◌++◌, ℕ, ◌≤◌, length, drop};
 ghost use Rattle.space_packet.specs.Answer.{gives, check_answer, size_answer};
 ghost use Rattle.params.specs.Request.{pairs_of, read_in, request_octets, kept_of, params_kept};
@@ -18,14 +20,14 @@ use tc_strict::Verdict;
 use tc_write::PusTcCreator;
 
 // What was read, and what a write of it answers.
-#[derive(Drop)]
+#[derive(Clone, Copy)]
 struct Rewritten {
     read: ParamsRead,
     written: SizeResult,
 }
 
 // The verdict on octets, and the pairs of the set request that they begin with.
-#[derive(Drop)]
+#[derive(Clone, Copy)]
 struct Told {
     verdict: Verdict,
     read: ParamsRead,

@@ -1,4 +1,6 @@
 // A ping command: built in four ways, written, and each time judged as it was written; and once in PUS A, without a source ID.
+#![tactic(auto)]
+
 use ecss::{CreatorConfig, MessageTypeId, PusError};
 use libc::STDOUT_FILENO;
 use space_packet::{Apid, ApidResult, SeqCount, SeqCountResult, SizeResult, SpHeader};

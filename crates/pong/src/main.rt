@@ -1,5 +1,7 @@
 // The report that answers a ping, with a time of seven octets: written in two ways, and each time judged and taken apart as it was
 // written, and refused as a command; then taken from the better of two captures.
+#![tactic(auto)]
+
 use ecss::{CreatorConfig, MessageTypeId, PusError};
 use libc::STDOUT_FILENO;
 use space_packet::{Apid, ApidResult, SeqCount, SeqCountResult, SizeResult, SpHeader};

@@ -1,5 +1,7 @@
 // A small-satellite profile of PUS-C telecommands: its verdict, and a builder that can produce nothing else. At most 1,024 octets,
 // unsegmented, APID below 64, services 1, 3, 5, 8, 17 and 20 only, acceptance always requested, empty data for service 17.
+#![tactic(auto)]
+
 ghost use Rattle.std.specs.Prelude.{◌≡◌, length};
 ghost use Rattle.space_packet.specs.Answer.{gives, ◌then◌, set_if, check_answer, size_answer};
 ghost use Rattle.space_packet.specs.Fields.{apid_check, count_check};
@@ -108,7 +110,7 @@ pub fn judge(s: &[u8]) -> Verdict
 // ---- a command
 
 // A command of the profile, but for its application data: what a mission chooses. All else is written as the profile has it.
-#[derive(Drop)]
+#[derive(Clone, Copy)]
 pub struct ProfileTc {
     apid: Apid,
     psc: PacketSequenceControl,
@@ -117,7 +119,7 @@ pub struct ProfileTc {
     ack_flags: AckFlags,
 }
 
-#[derive(Drop)]
+#[derive(Clone, Copy)]
 pub enum ProfileTcResult {
     Ok(ProfileTc),
     Err(PusError),
@@ -213,11 +215,11 @@ impl ProfileTc {
 // ---- the builder
 
 // A command in the making. The data is handed to build.
-#[derive(Drop)]
+#[derive(Clone, Copy)]
 pub struct ProfileBuilder(ProfileTc);
 
 // What a setter hands back: the new builder, or the old one with the refusal.
-#[derive(Drop)]
+#[derive(Clone, Copy)]
 pub struct ProfileBuilderSet {
     pub builder: ProfileBuilder,
     pub result: CheckResult,

@@ -2,6 +2,8 @@
 // proofs/First.antt and proofs/Building.antt the theorems.
 //
 // They are also proved here of the calls themselves. The functions below are there for their contracts, and nothing calls them.
+#![tactic(auto)]
+
 ghost use Rattle.std.specs.Prelude.{◌≤◌, ◌≡◌, length};
 ghost use Rattle.space_packet.specs.Answer.{gives};
 ghost use Rattle.tc_header.specs.Header.{pus_c};
@@ -28,7 +30,7 @@ fn judged(octets: &[u8]) -> Verdict
 }
 
 // Octets are judged, and so are the same with bits of them changed.
-#[derive(Drop)]
+#[derive(Clone, Copy)]
 struct Verdicts {
     sent: Verdict,
     received: Verdict,
@@ -49,7 +51,7 @@ fn changed(sent: &[u8], received: &[u8]) -> Verdicts
 // ---- what the builder makes is accepted
 
 // What a write answers, and the verdict on the buffer that it leaves.
-#[derive(Drop)]
+#[derive(Clone, Copy)]
 struct Outcome {
     size: SizeResult,
     verdict: Verdict,

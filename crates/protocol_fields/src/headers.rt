@@ -30,7 +30,7 @@ pub fn value16(s: &[u8], k: usize, good: &mut bool) -> u16 {
 
 // ---- the primary header
 
-#[derive(Drop)]
+#[derive(Clone, Copy)]
 pub struct Sp {
     pub pvn: u8,
     pub packet_type: PacketType,
@@ -101,7 +101,7 @@ pub fn after(before: CheckResult, e: PusError) -> PusError {
 
 // ---- the secondary headers
 
-#[derive(Drop)]
+#[derive(Clone, Copy)]
 pub struct Sec {
     pub version: PusVersion,
     pub ack: u8,

@@ -21,7 +21,7 @@ pub fn item(s: &[u8], k: usize) -> &[u8] {
 
 // ---- names
 
-#[derive(Drop)]
+#[derive(Clone, Copy)]
 enum Name {
     Apid,
     SeqCount,
@@ -96,7 +96,7 @@ impl Name {
 // ---- edits
 
 // A change of a creator.
-#[derive(Drop)]
+#[derive(Clone, Copy)]
 pub enum Edit {
     Apid(Apid),
     SeqCount(SeqCount),
@@ -113,7 +113,7 @@ pub enum Edit {
 }
 
 // Those of the primary header that have no call of their own.
-#[derive(Drop)]
+#[derive(Clone, Copy)]
 pub enum SpEdit {
     Pvn(u8),
     PacketType(PacketType),
@@ -122,7 +122,7 @@ pub enum SpEdit {
 }
 
 // Those of the secondary header that have none.
-#[derive(Drop)]
+#[derive(Clone, Copy)]
 pub enum SecEdit {
     Service(u8),
     Subtype(u8),
@@ -130,7 +130,7 @@ pub enum SecEdit {
 }
 
 // Those of telecommands alone.
-#[derive(Drop)]
+#[derive(Clone, Copy)]
 pub enum TcEdit {
     Ack(AckFlags),
     Source(u16),
@@ -139,7 +139,7 @@ pub enum TcEdit {
 }
 
 // Those of telemetry alone.
-#[derive(Drop)]
+#[derive(Clone, Copy)]
 pub enum TmEdit {
     Status(u8),
     Counter(u16),
@@ -276,7 +276,7 @@ fn sec_header_flag(h: SpHeader, flag: bool) -> SpHeader {
 // ---- setters
 
 // A call of a builder.
-#[derive(Drop)]
+#[derive(Clone, Copy)]
 pub enum Setter {
     PacketId(PacketId),
     SeqControl(PacketSequenceControl),

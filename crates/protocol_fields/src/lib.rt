@@ -2,6 +2,8 @@
 //
 // A line is found good as a whole before anything is run. So each call that reads a field takes `good`, and makes it false where
 // the field is not of its kind; what it answers then means nothing.
+#![tactic(auto)]
+
 pub mod headers;
 pub mod items;
 pub mod show;
@@ -140,7 +142,7 @@ pub fn checksum(s: &[u8], good: &mut bool) -> u16 {
 // ---- words
 
 // How a packet is read.
-#[derive(Drop)]
+#[derive(Clone, Copy)]
 pub enum Mode {
     New,
     NoTable,
@@ -169,7 +171,7 @@ impl Mode {
 }
 
 // How a reserved packet is finished.
-#[derive(Drop)]
+#[derive(Clone, Copy)]
 pub enum Fin {
     Finalize,
     NoTable,

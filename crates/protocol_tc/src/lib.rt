@@ -1,4 +1,6 @@
 // The requests on telecommands, by their kinds.
+#![tactic(auto)]
+
 mod plain;
 mod read;
 mod verdict;
@@ -7,7 +9,7 @@ mod write;
 use protocol_fields::{field, has, octets, show};
 use tc_header::TcForm;
 
-#[derive(Drop)]
+#[derive(Clone, Copy)]
 enum Kind {
     Strict,
     Read,
@@ -29,7 +31,7 @@ enum Kind {
 
 // How many fields a line has, its kind among them; and which are its octets, and those that are written to or compared with them;
 // 0 for none. No line has 0 fields, so none has the shape of an unknown kind.
-#[derive(Drop)]
+#[derive(Clone, Copy)]
 struct Shape {
     fields: usize,
     data: usize,

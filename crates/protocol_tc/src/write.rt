@@ -16,7 +16,7 @@ use tc_write::{
 // ---- the creator
 
 // What a creator is made of; its data and the edits stand beside it.
-#[derive(Drop)]
+#[derive(Clone, Copy)]
 struct Creation {
     sp: Sp,
     sec: Sec,
@@ -38,7 +38,7 @@ impl Creation {
 }
 
 // Both headers, or the first refusal: the form's, then those of SP's and SEC's fields.
-#[derive(Drop)]
+#[derive(Clone, Copy)]
 enum Heads {
     Ok(SpHeader, PusTcSecondaryHeader),
     Err(PusError),
@@ -187,7 +187,7 @@ fn told(c: PusTcCreator, data: &[u8]) {
 }
 
 // The calls that write a creator.
-#[derive(Drop)]
+#[derive(Clone, Copy)]
 enum Way {
     Plain,
     NoTable,
@@ -303,7 +303,7 @@ fn set_freely(builder: PusTcBuilder, setter: Setter) -> PusTcBuilder {
 // ---- reserve
 
 // A reservation, and how it is finished; what it is filled with stands beside it.
-#[derive(Drop)]
+#[derive(Clone, Copy)]
 struct Reservation {
     sp: Sp,
     sec: Sec,

@@ -1,10 +1,12 @@
 // The requests on telemetry with a time of so many octets.
+#![tactic(auto)]
+
 mod read;
 mod write;
 
 use protocol_fields::{field, show};
 
-#[derive(Drop)]
+#[derive(Clone, Copy)]
 enum Kind {
     Strict,
     Read,

@@ -13,7 +13,7 @@ use tm_write::{PusTmCreator, PusTmCreatorResult, PusTmCreatorSet};
 // ---- TIME and DATA, in one room
 
 // How many octets the fields 3 and 6 have, TIME and DATA or FILL: those of TIME are at the start of room, the others behind them.
-#[derive(Drop)]
+#[derive(Clone, Copy)]
 struct Lengths {
     time: usize,
     data: usize,
@@ -48,7 +48,7 @@ fn data_of(room: &[u8], at: Lengths) -> &[u8] {
 // ---- the creator
 
 // What a creator is made of; its time, its data and the edits stand beside it.
-#[derive(Drop)]
+#[derive(Clone, Copy)]
 struct Creation {
     sp: Sp,
     tm: PusTmSecondaryHeader,
@@ -209,7 +209,7 @@ fn told(c: PusTmCreator, time: &[u8], data: &[u8]) {
 }
 
 // The calls that write a creator.
-#[derive(Drop)]
+#[derive(Clone, Copy)]
 enum Way {
     Plain,
     NoTable,
@@ -234,7 +234,7 @@ fn put(way: Way, c: PusTmCreator, time: &[u8], data: &[u8], buf: &mut [u8]) -> S
 // ---- reserve
 
 // A reservation, and how it is finished; its time and what it is filled with stand beside it.
-#[derive(Drop)]
+#[derive(Clone, Copy)]
 struct Reservation {
     sp: Sp,
     tm: PusTmSecondaryHeader,

@@ -1,4 +1,6 @@
 // The requests on the uses above the packets, which the crate does not have.
+#![tactic(auto)]
+
 mod listing;
 mod parameters;
 mod tailored;
@@ -7,7 +9,7 @@ mod two_stations;
 
 use protocol_fields::field;
 
-#[derive(Drop)]
+#[derive(Clone, Copy)]
 enum Kind {
     Track,
     Best,

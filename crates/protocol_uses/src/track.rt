@@ -16,7 +16,7 @@ pub(crate) fn reply(line: &[u8], room: &mut [u8]) {
 // ---- CALLS
 
 // What is done with the octets of a call: a command that is sent, a report that comes, or the ID of a request that is asked after.
-#[derive(Drop)]
+#[derive(Clone, Copy)]
 enum Act {
     Send,
     Report,
@@ -24,7 +24,7 @@ enum Act {
 }
 
 // A call, and how many octets it has.
-#[derive(Drop)]
+#[derive(Clone, Copy)]
 struct Call {
     act: Act,
     octets: usize,

@@ -1,4 +1,6 @@
 // The report of tcverdict: the packets of a capture as the splitter finds them, each with its strict verdict.
+#![tactic(auto)]
+
 ghost use Rattle.std.specs.Prelude.{◌≡◌, ◌≤◌, length, take};
 ghost use Rattle.io.specs.Counts.{IsPrefixLen};
 ghost use Rattle.text.specs.Page.{page, laid};

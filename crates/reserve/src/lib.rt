@@ -1,6 +1,8 @@
 // A packet whose headers stand in a buffer and whose data is filled in there: a reservation by value, the buffer lent again
 // to each call. Each call takes the octet at which the data of its kind starts. A reservation that does not hold together is 8;
 // then, where a buffer is lent, 1.
+#![tactic(auto)]
+
 ghost use Rattle.std.specs.Prelude.{◌≡◌, length};
 ghost use Rattle.space_packet.specs.Answer.{size_answer, check_answer};
 ghost use Rattle.space_packet.specs.Part.{beyond};
@@ -10,7 +12,7 @@ ghost use Rattle.reserve.specs.Reserve.{holds, holds_in, data_len_of, bounds_of,
 use ecss::frame;
 use space_packet::{ByteConversionError, CheckResult, PusError, SizeResult};
 
-#[derive(Drop)]
+#[derive(Clone, Copy)]
 pub struct Reservation {
     // The octet at which the data starts.
     pub start: usize,
@@ -20,13 +22,13 @@ pub struct Reservation {
 }
 
 // The octets from `start` up to `end`.
-#[derive(Drop)]
+#[derive(Clone, Copy)]
 pub struct Bounds {
     pub start: usize,
     pub end: usize,
 }
 
-#[derive(Drop)]
+#[derive(Clone, Copy)]
 pub enum BoundsResult {
     Ok(Bounds),
     Err(PusError),

@@ -1,4 +1,6 @@
 // A set request as a packet: a command of service 20, subtype 3, judged, and its application data read as pairs.
+#![tactic(auto)]
+
 ghost use Rattle.std.specs.Prelude.{◌≡◌};
 ghost use Rattle.space_packet.specs.Answer.{check_answer};
 ghost use Rattle.ecss.specs.Version.{message_type_of};

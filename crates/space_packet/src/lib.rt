@@ -1,4 +1,6 @@
 // The space packet primary header of CCSDS 133.0-B-2, and the refusals that every crate above answers with.
+#![tactic(auto)]
+
 ghost use Rattle.std.specs.Prelude.{◌≡◌, ◌++◌, true, false, ◌-◌, ◌^◌, ◌≤◌, length, drop, get_or, eqb};
 ghost use Rattle.space_packet.specs.Answer.{bytes_numbers, numbers_of, in_numbers, gives, ◌then◌, set_if, in_range, check_answer};
 ghost use Rattle.space_packet.specs.Bits.{be16, word};
@@ -23,14 +25,14 @@ fn header_len() -> usize
 // ---- refusals
 
 // Why octets could not be written or read: how many there were, and how many it takes.
-#[derive(Drop)]
+#[derive(Clone, Copy)]
 pub enum ByteConversionError {
     ToSliceTooSmall { found: usize, expected: usize },
     FromSliceTooSmall { found: usize, expected: usize },
 }
 
 // Every refusal of the library, in the order of its numbers. 5 is retired: it was the Rust's CrcCalculationMissing, and stays unused.
-#[derive(Drop)]
+#[derive(Clone, Copy)]
 pub enum PusError {
     // 1 and 2
     ByteConversion(ByteConversionError),
@@ -98,7 +100,7 @@ pub enum PusError {
 }
 
 // A refusal in numbers: its own, how many values it has, and these, with 0 for what it has not.
-#[derive(Drop)]
+#[derive(Clone, Copy)]
 pub struct RefusalNumbers {
     pub number: u8,
     pub count: usize,
@@ -183,14 +185,14 @@ impl PusError {
 }
 
 // The Rust's Result<(), PusError>.
-#[derive(Drop)]
+#[derive(Clone, Copy)]
 pub enum CheckResult {
     Ok,
     Err(PusError),
 }
 
 // The Rust's Result<usize, PusError>: how many octets were written.
-#[derive(Drop)]
+#[derive(Clone, Copy)]
 pub enum SizeResult {
     Ok(usize),
     Err(PusError),
@@ -219,11 +221,11 @@ fn first(a: CheckResult, b: CheckResult) -> CheckResult
 // ---- the numbers that have a width of their own
 
 // An application process ID, 11 bits.
-#[derive(Drop)]
+#[derive(Clone, Copy)]
 pub struct Apid(u16);
 
 // A packet sequence count, 14 bits.
-#[derive(Drop)]
+#[derive(Clone, Copy)]
 pub struct SeqCount(u16);
 
 pub const MAX_APID: Apid = Apid(2047);
@@ -252,13 +254,13 @@ fn max_seq_count() -> SeqCount
     MAX_SEQ_COUNT
 }
 
-#[derive(Drop)]
+#[derive(Clone, Copy)]
 pub enum ApidResult {
     Ok(Apid),
     Err(PusError),
 }
 
-#[derive(Drop)]
+#[derive(Clone, Copy)]
 pub enum SeqCountResult {
     Ok(SeqCount),
     Err(PusError),
@@ -325,7 +327,7 @@ impl SeqCount {
 
 // ---- the packet type and the sequence flags
 
-#[derive(Drop)]
+#[derive(Clone, Copy)]
 pub enum PacketType {
     Tm,
     Tc,
@@ -353,7 +355,7 @@ impl PacketType {
     }
 }
 
-#[derive(Drop)]
+#[derive(Clone, Copy)]
 pub enum SequenceFlags {
     ContinuationSegment,
     FirstSegment,
@@ -399,7 +401,7 @@ pub fn packet_type_in_raw_packet_id(packet_id: u16) -> PacketType
 
 // ---- the packet ID: the last thirteen bits of the first two octets
 
-#[derive(Drop)]
+#[derive(Clone, Copy)]
 pub struct PacketId {
     pub packet_type: PacketType,
     pub sec_header_flag: bool,
@@ -407,7 +409,7 @@ pub struct PacketId {
 }
 
 // What a setter hands back: the new packet ID, or the old one with the refusal.
-#[derive(Drop)]
+#[derive(Clone, Copy)]
 pub struct PacketIdSet {
     pub packet_id: PacketId,
     pub result: CheckResult,
@@ -488,7 +490,7 @@ impl PacketId {
 
 // ---- the packet sequence control: the third and the fourth octet
 
-#[derive(Drop)]
+#[derive(Clone, Copy)]
 pub struct PacketSequenceControl {
     pub seq_flags: SequenceFlags,
     pub seq_count: SeqCount,
@@ -524,7 +526,7 @@ impl PacketSequenceControl {
 
 // ---- the primary header
 
-#[derive(Drop)]
+#[derive(Clone, Copy)]
 pub struct SpacePacketHeader {
     // The packet version number, 3 bits.
     pub version: u8,
@@ -536,14 +538,14 @@ pub struct SpacePacketHeader {
 
 pub type SpHeader = SpacePacketHeader;
 
-#[derive(Drop)]
+#[derive(Clone, Copy)]
 pub enum SpHeaderResult {
     Ok(SpacePacketHeader),
     Err(PusError),
 }
 
 // What a setter hands back: the new header, or the old one with the refusal.
-#[derive(Drop)]
+#[derive(Clone, Copy)]
 pub struct SpHeaderSet {
     pub header: SpacePacketHeader,
     pub result: CheckResult,

@@ -1,4 +1,6 @@
 // Best of two stations: of two captures of one telemetry packet, the packet as a part of the one that passes the strict verdict.
+#![tactic(auto)]
+
 ghost use Rattle.std.specs.Prelude.{◌≡◌};
 ghost use Rattle.stations.specs.Best.{chosen, best_in, best_at, station_answer};
 
@@ -6,7 +8,7 @@ use ecss::PusError;
 use tm_strict::Verdict;
 
 // The station whose capture passes, or both refusals.
-#[derive(Drop)]
+#[derive(Clone, Copy)]
 pub enum Station {
     First,
     Second,

@@ -1,6 +1,8 @@
 // What is asked of the two calls at a handover, as theorems: specs/Handover.antt has the words, proofs/ the theorems.
 //
 // They are also proved here of the calls themselves. The functions below are there for their contracts, and nothing calls them.
+#![tactic(auto)]
+
 ghost use Rattle.std.specs.Prelude.{◌≡◌, ◌↔◌, true};
 ghost use Rattle.tm_strict.specs.Verdict.{verdict_answer};
 ghost use Rattle.stations_handover.specs.Handover.{Passes, Refused, Same, Alike, Judged};
@@ -12,7 +14,7 @@ use tm_strict::Verdict;
 // ---- the capture that is not taken
 
 // What both calls answer on two captures and on two others: the stations, and whether the parts are the same octets.
-#[derive(Drop)]
+#[derive(Clone, Copy)]
 struct Seen {
     one: Station,
     other: Station,

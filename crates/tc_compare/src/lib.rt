@@ -1,5 +1,7 @@
 // Telecommands that were read, compared with a creator and with each other: each call takes the octets and the choice of
 // checksum, and reads anew, as PUS C or, where it ends in `_in`, in the form that is named.
+#![tactic(auto)]
+
 ghost use Rattle.std.specs.Prelude.{◌≡◌};
 ghost use Rattle.ecss.specs.Frame.{was_read};
 ghost use Rattle.tc_read.specs.Read.{read_in};

@@ -2,6 +2,8 @@
 //
 // Theorems 1, 2, 4, 5, 7, 8 and 9 are also proved here of the calls themselves: the functions below write packets of a form, in either checksum
 // form, and have octets judged. They are there for their contracts, and nothing calls them.
+#![tactic(auto)]
+
 ghost use Rattle.std.specs.Prelude.{◌≡◌, true, [], ◌∷◌, ◌++◌, length};
 ghost use Rattle.space_packet.specs.Wrote.{Wrote};
 ghost use Rattle.ecss.specs.Kind.{Rules};
@@ -132,7 +134,7 @@ fn reserved(
 
 // ---- theorems 5 and 9: octets are judged, and so are the same with bits of them changed
 
-#[derive(Drop)]
+#[derive(Clone, Copy)]
 struct Verdicts {
     sent: Verdict,
     received: Verdict,

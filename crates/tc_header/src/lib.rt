@@ -1,5 +1,7 @@
 // The secondary header of a telecommand after ECSS-E-ST-70-41C and, for PUS A, ECSS-E-70-41A; its form, and its acknowledgement
 // flags. The calls named after the Rust have PUS C with no spare octets; their siblings, which end in `_in`, take a form.
+#![tactic(auto)]
+
 ghost use Rattle.std.specs.Prelude.{◌≡◌, [], ◌++◌, true, ◌+◌, ◌*◌, ◌/◌, ◌%◌, ◌<◌, ◌≤◌, length, get_or, take, drop, replicate};
 ghost use Rattle.space_packet.specs.Bits.{lowest};
 ghost use Rattle.space_packet.specs.Answer.{refusal, gives, refuses, ◌then◌, in_range, check_answer};
@@ -39,7 +41,7 @@ fn min_len() -> usize
 // ---- the form
 
 // The edition of a telecommand, and with it the width of its source ID in bits and how many spare octets end its secondary header.
-#[derive(Drop)]
+#[derive(Clone, Copy)]
 pub struct TcForm {
     version: PusVersion,
     source_width: u8,
@@ -280,7 +282,7 @@ fn all_zero(s: &[u8]) -> bool
 // four bits as they are handed in, and not their names. So for PUS A set them by their value, or take `acceptance` here for completion
 // there and `start` for progress. All four, none, and the builder's acceptance with completion are the same bits in either order, and
 // no other code of this library goes by the names of a PUS A command.
-#[derive(Drop)]
+#[derive(Clone, Copy)]
 pub struct AckFlags(u8);
 
 pub const ACK_ALL: AckFlags = AckFlags(15);
@@ -292,7 +294,7 @@ fn ack_all() -> AckFlags
     ACK_ALL
 }
 
-#[derive(Drop)]
+#[derive(Clone, Copy)]
 pub enum AckFlagsResult {
     Ok(AckFlags),
     Err(PusError),
@@ -406,7 +408,7 @@ impl AckFlags {
 
 // ---- the secondary header
 
-#[derive(Drop)]
+#[derive(Clone, Copy)]
 pub struct PusTcSecondaryHeader {
     pub message_type_id: MessageTypeId,
     pub source_id: u16,
@@ -414,7 +416,7 @@ pub struct PusTcSecondaryHeader {
     pub version: PusVersion,
 }
 
-#[derive(Drop)]
+#[derive(Clone, Copy)]
 pub enum SecHeaderResult {
     Ok(PusTcSecondaryHeader),
     Err(PusError),

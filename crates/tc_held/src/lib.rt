@@ -1,5 +1,7 @@
 // The reader that keeps the lent packet beside its two headers. Its calls are thin: each takes the reader apart and hands
 // the octets on to a call that reads anew.
+#![tactic(auto)]
+
 ghost use Rattle.std.specs.Prelude.{◌≡◌};
 ghost use Rattle.space_packet.specs.Part.{beyond};
 ghost use Rattle.tc_read.specs.Read.{read_in, app_data_in, app_data_at};
@@ -12,7 +14,7 @@ use tc_header::{PusTcSecondaryHeader, TcForm};
 use tc_read::{PusTcRecord, PusTcRecordResult};
 use tc_write::PusTcCreator;
 
-#[derive(Drop)]
+#[derive(Clone, Copy)]
 pub struct PusTcReader<'a> {
     raw: &'a [u8],
     sp_header: SpHeader,

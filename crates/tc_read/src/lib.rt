@@ -1,6 +1,8 @@
 // Telecommands read, after ECSS-E-ST-70-41C and, for PUS A, ECSS-E-70-41A: the record of what octets hold, and the parts of them
 // that are handed out without a copy. The calls named after the Rust read PUS C with no spare octets; their siblings, which end in
 // `_in`, take a form.
+#![tactic(auto)]
+
 ghost use Rattle.std.specs.Prelude.{◌≡◌, false, eqb};
 ghost use Rattle.space_packet.specs.Fields.{type_number, id_raw, psc_raw};
 ghost use Rattle.space_packet.specs.Header.{packet_len};
@@ -20,7 +22,7 @@ use space_packet::{
 use tc_header::{AckFlags, PusTcSecondaryHeader, SecHeaderResult, TcForm};
 
 // What a reader reports.
-#[derive(Drop)]
+#[derive(Clone, Copy)]
 pub struct PusTcRecord {
     pub sp_header: SpHeader,
     pub sec_header: PusTcSecondaryHeader,
@@ -32,7 +34,7 @@ pub struct PusTcRecord {
     pub crc16: Crc16,
 }
 
-#[derive(Drop)]
+#[derive(Clone, Copy)]
 pub enum PusTcRecordResult {
     Ok(PusTcRecord),
     Err(PusError),

@@ -1,4 +1,6 @@
 // Telecommands whose application data is filled in their buffer, after ECSS-E-ST-70-41C and, for PUS A, ECSS-E-70-41A.
+#![tactic(auto)]
+
 ghost use Rattle.std.specs.Prelude.{◌≡◌, length};
 ghost use Rattle.space_packet.specs.Answer.{size_answer, gives, ◌then◌};
 ghost use Rattle.space_packet.specs.Part.{beyond};
@@ -16,13 +18,13 @@ use tc_header::{PusTcSecondaryHeader, TcForm};
 
 // A reservation by value, with its form; the buffer is lent again to each call. Finishing and borrowing are refused with 8, then
 // 1, and the data's length with 8 alone; 8 too where the reservation does not start at the form's data.
-#[derive(Drop)]
+#[derive(Clone, Copy)]
 pub struct PusTcCreatorWithReservedAppData {
     held: Reservation,
     form: TcForm,
 }
 
-#[derive(Drop)]
+#[derive(Clone, Copy)]
 pub enum ReservedResult {
     Ok(PusTcCreatorWithReservedAppData),
     Err(PusError),

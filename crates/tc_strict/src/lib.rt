@@ -1,5 +1,7 @@
 // The strict verdict: octets are accepted exactly when they begin with a checksummed telecommand, of PUS C or of the form that is
 // named, that the written rules produce.
+#![tactic(auto)]
+
 ghost use Rattle.std.specs.Prelude.{◌≡◌};
 ghost use Rattle.space_packet.specs.Part.{beyond};
 ghost use Rattle.ecss.specs.Kind.{secondary_of, secondary_at};
@@ -14,7 +16,7 @@ use tc_read::{PusTcRecord, PusTcRecordResult};
 pub mod split;
 
 // What the reader reports, or the first check that fails.
-#[derive(Drop)]
+#[derive(Clone, Copy)]
 pub enum Verdict {
     Accepted(PusTcRecord),
     Refused(PusError),

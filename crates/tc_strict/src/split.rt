@@ -6,12 +6,12 @@ use crate::Verdict;
 use tc_header::TcForm;
 
 // A place in a capture.
-#[derive(Drop)]
+#[derive(Clone, Copy)]
 pub struct Cursor {
     pub at: usize,
 }
 
-#[derive(Drop)]
+#[derive(Clone, Copy)]
 pub enum Step {
     // A packet of `total` octets from `at` on, its verdict, and where to go on.
     Packet {

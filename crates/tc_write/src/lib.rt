@@ -1,5 +1,7 @@
 // Telecommands written, after ECSS-E-ST-70-41C and, for PUS A, ECSS-E-70-41A: the creator and the builder. Their application data
 // travel beside them. The calls named after the Rust have PUS C; their siblings, which end in `_in`, take a form.
+#![tactic(auto)]
+
 ghost use Rattle.std.specs.Prelude.{◌≡◌, true, eqb, length};
 ghost use Rattle.space_packet.specs.Answer.{gives, ◌then◌, set_if, check_answer, size_answer};
 ghost use Rattle.space_packet.specs.Fields.{apid_check, count_check, id_with_apid, type_number, id_raw, psc_raw};
@@ -58,7 +60,7 @@ fn simple(form: TcForm, message_type_id: MessageTypeId, ack_flags: AckFlags) -> 
 // ---- the creator
 
 // A telecommand of its form, but for its application data.
-#[derive(Drop)]
+#[derive(Clone, Copy)]
 pub struct PusTcCreator {
     sp_header: SpHeader,
     sec_header: PusTcSecondaryHeader,
@@ -66,14 +68,14 @@ pub struct PusTcCreator {
     form: TcForm,
 }
 
-#[derive(Drop)]
+#[derive(Clone, Copy)]
 pub enum PusTcCreatorResult {
     Ok(PusTcCreator),
     Err(PusError),
 }
 
 // What a setter hands back: the new creator, or the old one with the refusal.
-#[derive(Drop)]
+#[derive(Clone, Copy)]
 pub struct PusTcCreatorSet {
     pub creator: PusTcCreator,
     pub result: CheckResult,
@@ -611,17 +613,17 @@ impl PusTcCreator {
 // ---- the builder
 
 // A creator in the making. The data is handed to build.
-#[derive(Drop)]
+#[derive(Clone, Copy)]
 pub struct PusTcBuilder(PusTcCreator);
 
-#[derive(Drop)]
+#[derive(Clone, Copy)]
 pub enum PusTcBuilderResult {
     Ok(PusTcBuilder),
     Err(PusError),
 }
 
 // What a setter hands back: the new builder, or the old one with the refusal.
-#[derive(Drop)]
+#[derive(Clone, Copy)]
 pub struct PusTcBuilderSet {
     pub builder: PusTcBuilder,
     pub result: CheckResult,

@@ -1,4 +1,6 @@
 // Lists the gaps of standard input.
+#![tactic(auto)]
+
 fn main() {
     gap_report::run(libc::STDIN_FILENO);
 }

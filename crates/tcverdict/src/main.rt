@@ -1,4 +1,6 @@
 // Judges the packets of standard input.
+#![tactic(auto)]
+
 fn main() {
     report::run(libc::STDIN_FILENO);
 }

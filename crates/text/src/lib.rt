@@ -1,6 +1,8 @@
 // The words of a line protocol: pieces of a line, numbers and octets as text, and a buffer that answers are laid into.
 // No call refuses anything: a place past the end is an empty part, a field that says nothing is `Bad`, and what is laid past the
 // end of a buffer is dropped.
+#![tactic(auto)]
+
 ghost use Rattle.std.specs.Prelude.{◌≡◌, true, [], ◌∷◌, ◌+◌, ◌-◌, ◌/◌, ◌%◌, ◌<◌, take, drop};
 ghost use Rattle.text.specs.Pieces.{gap, one, count_of, piece_of};
 ghost use Rattle.text.specs.Digits.{hex_glyph, hex_value, hex_octet, hex_text, pair_value, pair_of, are_pairs, pair_octets, with_digit, decimal, number_from, number_of, word_of};
@@ -91,7 +93,7 @@ pub fn pieces(s: &[u8], sep: u8) -> usize
 // ---- what a field says
 
 // A number, or that the field is none.
-#[derive(Drop)]
+#[derive(Clone, Copy)]
 pub enum Value {
     Is(u64),
     Bad,

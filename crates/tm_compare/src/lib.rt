@@ -1,5 +1,7 @@
 // Telemetry that was read, compared with a creator and with each other: each call takes the octets and the choice of checksum, and
 // reads anew.
+#![tactic(auto)]
+
 ghost use Rattle.std.specs.Prelude.{◌≡◌};
 ghost use Rattle.ecss.specs.Frame.{was_read};
 ghost use Rattle.tm_read.specs.Read.{read_in, timestamp_in, source_data_in};

@@ -4,6 +4,8 @@
 // Theorems 1, 2, 4, 5, 7, 8 and 9, and that nothing is accepted both as telemetry and as a telecommand, are also proved here of the calls
 // themselves: the functions below write packets of a time length, in either checksum form, and have octets judged. They are there
 // for their contracts, and nothing calls them.
+#![tactic(auto)]
+
 ghost use Rattle.std.specs.Prelude.{◌≡◌, true, length};
 ghost use Rattle.space_packet.specs.Wrote.{Wrote};
 ghost use Rattle.space_packet.specs.Answer.{gives};
@@ -132,7 +134,7 @@ fn reserved(
 
 // ---- theorems 5 and 9: octets are judged, and so are the same with bits of them changed
 
-#[derive(Drop)]
+#[derive(Clone, Copy)]
 struct Verdicts {
     sent: Verdict,
     received: Verdict,
@@ -153,7 +155,7 @@ fn changed(time_len: u8, sent: &[u8], received: &[u8]) -> Verdicts
 
 // ---- octets are judged as telemetry and as a telecommand, and not accepted as both
 
-#[derive(Drop)]
+#[derive(Clone, Copy)]
 struct AsBoth {
     telemetry: Verdict,
     command: tc_strict::Verdict,

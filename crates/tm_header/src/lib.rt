@@ -1,5 +1,7 @@
 // The secondary header of a telemetry packet after ECSS-E-ST-70-41C. Its time field is opaque and travels beside the record; its
 // length in octets, which the mission fixes, is handed to each call that needs it.
+#![tactic(auto)]
+
 ghost use Rattle.std.specs.Prelude.{◌≡◌, [], ◌++◌, ◌+◌, ◌≤◌, length, take, drop};
 ghost use Rattle.space_packet.specs.Answer.{refusal, gives, refuses, set_if, check_answer};
 ghost use Rattle.space_packet.specs.Part.{beyond};
@@ -106,7 +108,7 @@ pub fn check_status(sc_time_ref_status: u8) -> CheckResult
 
 // ---- the secondary header
 
-#[derive(Drop)]
+#[derive(Clone, Copy)]
 pub struct PusTmSecondaryHeader {
     pub pus_version: PusVersion,
     // Four bits, whose meaning is the mission's.
@@ -116,14 +118,14 @@ pub struct PusTmSecondaryHeader {
     pub dest_id: u16,
 }
 
-#[derive(Drop)]
+#[derive(Clone, Copy)]
 pub enum SecHeaderResult {
     Ok(PusTmSecondaryHeader),
     Err(PusError),
 }
 
 // What a setter hands back: the new header, or the old one with the refusal.
-#[derive(Drop)]
+#[derive(Clone, Copy)]
 pub struct PusTmSecondaryHeaderSet {
     pub sec_header: PusTmSecondaryHeader,
     pub result: CheckResult,

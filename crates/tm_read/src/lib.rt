@@ -1,5 +1,7 @@
 // Telemetry read, after ECSS-E-ST-70-41C: the record of what octets hold, and the parts of them that are handed out without a copy.
 // Each call takes the length of the time field that the mission fixes.
+#![tactic(auto)]
+
 ghost use Rattle.std.specs.Prelude.{◌≡◌, false, eqb};
 ghost use Rattle.space_packet.specs.Fields.{type_number, id_raw, psc_raw};
 ghost use Rattle.space_packet.specs.Header.{packet_len};
@@ -18,7 +20,7 @@ use space_packet::{
 use tm_header::{PUC_TM_MIN_SEC_HEADER_LEN, PusTmSecondaryHeader, SecHeaderResult};
 
 // What a reader reports.
-#[derive(Drop)]
+#[derive(Clone, Copy)]
 pub struct PusTmRecord {
     pub sp_header: SpHeader,
     pub sec_header: PusTmSecondaryHeader,
@@ -30,7 +32,7 @@ pub struct PusTmRecord {
     pub crc16: Crc16,
 }
 
-#[derive(Drop)]
+#[derive(Clone, Copy)]
 pub enum PusTmRecordResult {
     Ok(PusTmRecord),
     Err(PusError),

@@ -1,4 +1,6 @@
 // Telemetry whose source data is filled in its buffer, after ECSS-E-ST-70-41C.
+#![tactic(auto)]
+
 ghost use Rattle.std.specs.Prelude.{◌≡◌, length};
 ghost use Rattle.space_packet.specs.Answer.{size_answer, gives, ◌then◌};
 ghost use Rattle.space_packet.specs.Part.{beyond};
@@ -16,13 +18,13 @@ use tm_header::{MAX_SEC_HEADER_LEN, PUC_TM_MIN_SEC_HEADER_LEN, PusTmSecondaryHea
 
 // A reservation by value, with the mission's time length; the buffer is lent again to each call. Finishing and borrowing are refused
 // with 8, then 1, and the data's length with 8 alone; 8 too where the reservation does not start behind that time.
-#[derive(Drop)]
+#[derive(Clone, Copy)]
 pub struct PusTmCreatorWithReservedSourceData {
     held: Reservation,
     time_len: u8,
 }
 
-#[derive(Drop)]
+#[derive(Clone, Copy)]
 pub enum ReservedResult {
     Ok(PusTmCreatorWithReservedSourceData),
     Err(PusError),

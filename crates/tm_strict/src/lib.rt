@@ -1,5 +1,7 @@
 // The strict verdict on telemetry: octets are accepted exactly when they begin with a checksummed telemetry packet of PUS C, with a
 // time field as long as the mission fixes it, that the written rules produce.
+#![tactic(auto)]
+
 ghost use Rattle.std.specs.Prelude.{◌≡◌};
 ghost use Rattle.tm_strict.specs.Verdict.{strict_in, verdict_answer};
 
@@ -8,7 +10,7 @@ use space_packet::{CCSDS_HEADER_LEN, CheckResult, PacketType};
 use tm_read::{PusTmRecord, PusTmRecordResult};
 
 // What the reader reports, or the first check that fails.
-#[derive(Drop)]
+#[derive(Clone, Copy)]
 pub enum Verdict {
     Accepted(PusTmRecord),
     Refused(PusError),

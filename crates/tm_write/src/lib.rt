@@ -1,5 +1,7 @@
 // Telemetry written, after ECSS-E-ST-70-41C: the creator. The octets of its time and its source data travel beside it. The length of
 // the time, which the mission fixes, is handed in once and held; a time of another length is refused with 14, before all others.
+#![tactic(auto)]
+
 ghost use Rattle.std.specs.Prelude.{◌≡◌, length};
 ghost use Rattle.space_packet.specs.Answer.{gives, ◌then◌, set_if, check_answer, size_answer};
 ghost use Rattle.space_packet.specs.Fields.{apid_check, count_check, id_with_apid};
@@ -38,7 +40,7 @@ pub fn asks(time_len: u8, sec_header: PusTmSecondaryHeader, time: &[u8]) -> Asks
 // ---- the creator
 
 // A telemetry packet of the mission's time length, but for its time and its source data.
-#[derive(Drop)]
+#[derive(Clone, Copy)]
 pub struct PusTmCreator {
     sp_header: SpHeader,
     sec_header: PusTmSecondaryHeader,
@@ -46,14 +48,14 @@ pub struct PusTmCreator {
     time_len: u8,
 }
 
-#[derive(Drop)]
+#[derive(Clone, Copy)]
 pub enum PusTmCreatorResult {
     Ok(PusTmCreator),
     Err(PusError),
 }
 
 // What a setter hands back: the new creator, or the old one with the refusal.
-#[derive(Drop)]
+#[derive(Clone, Copy)]
 pub struct PusTmCreatorSet {
     pub creator: PusTmCreator,
     pub result: CheckResult,

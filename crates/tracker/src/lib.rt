@@ -1,4 +1,6 @@
 // The tracker of open commands: which of those sent are still open, by the reports of service 1 that have come.
+#![tactic(auto)]
+
 ghost use Rattle.std.specs.Prelude.{◌≡◌, [], ◌∷◌, ◌++◌, ◌<◌, ◌≤◌, length};
 ghost use Rattle.space_packet.specs.Answer.{set_if};
 ghost use Rattle.tracker.specs.Reports.{request_of, either, ends, counted, all_come, report_length, is_report, report_from};
@@ -9,7 +11,7 @@ use ecss::PusError;
 use space_packet::CheckResult;
 
 // A command that is open: its request ID, its acknowledgement bits, and the kinds of report that have come.
-#[derive(Drop)]
+#[derive(Clone, Copy)]
 pub struct Entry {
     id: u32,
     asked: u8,
@@ -19,20 +21,20 @@ pub struct Entry {
 }
 
 // The open commands are the first `count` entries, in the order of their sending.
-#[derive(Drop)]
+#[derive(Clone, Copy)]
 pub struct Tracker {
     entries: [Entry; 32],
     count: usize,
 }
 
 // What a send or a report answers, and the tracker after it: the old one where it was refused.
-#[derive(Drop)]
+#[derive(Clone, Copy)]
 pub struct TrackerSet {
     pub tracker: Tracker,
     pub result: CheckResult,
 }
 
-#[derive(Drop)]
+#[derive(Clone, Copy)]
 pub enum OpenRequest {
     Some(u32),
     None,

@@ -2,6 +2,8 @@
 // specs/Answers.antt what is asked of the answers, proofs/ has the theorems.
 //
 // They are also proved here of the calls themselves. The functions below are there for their contracts, and nothing calls them.
+#![tactic(auto)]
+
 ghost use Rattle.std.specs.Prelude.{◌≡◌, ◌↔◌, true, length};
 ghost use Rattle.tracker.specs.Open.{request_at};
 ghost use Rattle.tracker_history.specs.History.{History, start, ◌▸◌, sent, reported, open_after, open_in};

@@ -1,0 +1,13 @@
+use mathlib.Core.Path.{sym, ap, ◌∙◌}
+use mathlib.Core.Bool.{not}
+use Rattle.space_packet.proofs.Answers.{refuse-no, refuse-yes}
+use borrow.Author.Rules.{rules}
+use Rattle.param_value.proofs.double_nan_bits.Goals as goal
+
+pub returns-then-is_nan64 : goal.returns-then-is_nan64
+returns-then-is_nan64 c =
+    sym (refuse-no _ _ _ (ap not (sym c.is_nan64.ensures ∙ c.if-is_nan64.true)))
+
+pub returns : goal.returns
+returns c =
+    sym (refuse-yes _ _ _ (ap not (sym c.is_nan64.ensures ∙ c.if-is_nan64.false)))

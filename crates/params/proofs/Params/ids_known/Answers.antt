@@ -1,0 +1,38 @@
+-- `Params::ids_known` meets its contract: the IDs from the place i on are known as all are.
+use Prim.Native.Nat.{◌-◌, ◌≤◌}
+use mathlib.Core.Path.{◌≡◌, refl, sym, ap, ◌∙◌}
+use native.Mathlib.Omega.{arith}
+use lib.ListN.{take, drop, length}
+use borrow.Author.Tests.{not-true, not-false}
+use Rattle.params.specs.Request.{ids_known}
+use Rattle.params.proofs.WriteLaws.{pair-at, no_more, ids-known, ids-unknown, ids-end}
+use borrow.Author.Rules.{rules}
+use Rattle.params.proofs.Params.ids_known.Goals as goal
+
+pub loop-i-init : goal.loop-i-init
+loop-i-init c =
+    (omega arith, refl)
+
+pub returns-then-not-is_known : goal.returns-then-not-is_known
+returns-then-not-is_known c =
+    let l = c.args.list.now in
+    let u = c.used-n.ensures in
+    let k = u.is ∙ ap length (sym u.first) in
+    sym (ids-unknown l _ _ _ (pair-at _ _ _ k _ c.loop-i-test.true) (sym c.is_known.ensures ∙ c.if-not-is_known.true))
+    ∙ c.loop-i.invariant.1 ∙ ap (ids_known l) u.first
+
+pub loop-i-preserved : goal.loop-i-preserved
+loop-i-preserved c =
+    let l = c.args.list.now in
+    let u = c.used-n.ensures in
+    let k = u.is ∙ ap length (sym u.first) in (
+      omega arith,
+      ids-known l _ _ _ (pair-at _ _ _ k _ c.loop-i-test.true) (sym c.is_known.ensures ∙ c.if-not-is_known.false) ∙ c.loop-i.invariant.1,
+    )
+
+pub returns : goal.returns
+returns c =
+    let l = c.args.list.now in
+    let u = c.used-n.ensures in
+    let k = u.is ∙ ap length (sym u.first) in
+    sym (ids-end l _ (no_more _ _ c.loop-i.i k c.loop-i-test.false c.loop-i.invariant.0)) ∙ c.loop-i.invariant.1 ∙ ap (ids_known l) u.first

@@ -1,0 +1,30 @@
+-- `params::row_of` meets its contract: the search from the place i on finds what it finds in the whole.
+use Prim.Native.Nat.{◌-◌, ◌≤◌}
+use mathlib.Core.Path.{◌≡◌, refl, sym, ◌∙◌}
+use native.Mathlib.Omega.{arith}
+use lib.ListN.{length, drop}
+use Rattle.params.specs.Parameters.{row_of}
+use Rattle.params.proofs.Lists.{row_here, row_on, row-end}
+use borrow.Author.Rules.{rules}
+use Rattle.params.proofs.row_of.Goals as goal
+
+pub loop-i-init : goal.loop-i-init
+loop-i-init c =
+    (omega arith, refl)
+
+pub returns-then-id_of-id : goal.returns-then-id_of-id
+returns-then-id_of-id c =
+    let a = c.args in
+    sym (row_here a.list.now c.loop-i.i a.id _ c.loop-i-test.true (sym c.id_of.ensures ∙ c.if-id_of-id.true)) ∙ c.loop-i.invariant.1
+
+pub loop-i-preserved : goal.loop-i-preserved
+loop-i-preserved c =
+    let a = c.args in (
+      omega arith,
+      row_on a.list.now c.loop-i.i a.id _ c.loop-i-test.true (λ z. c.if-id_of-id.false (c.id_of.ensures ∙ z)) ∙ c.loop-i.invariant.1,
+    )
+
+pub returns : goal.returns
+returns c =
+    let a = c.args in
+    sym (row-end a.list.now c.loop-i.i a.id (omega arith)) ∙ c.loop-i.invariant.1

@@ -1,0 +1,11 @@
+-- `SpacePacketHeader::is_tc` meets its contract: the number of the packet's type, compared with 1.
+use Prim.Native.Nat.{ℕ}
+use mathlib.Core.Path.{ap, ◌∙◌}
+use lib.Dec.{eqb}
+use Rattle.space_packet.specs.Fields.{type_number}
+use borrow.Author.Rules.{rules}
+use Rattle.space_packet.proofs.SpacePacketHeader.is_tc.Goals as goal
+
+pub returns : goal.returns
+returns c =
+    ap (λ (n : ℕ). eqb n 1) (c.raw_value.ensures ∙ ap type_number c.packet_type-packet_type.ensures)

@@ -1,0 +1,15 @@
+-- `text::hex_glyph` meets its contract, case by case.
+use borrow.Author.Tests.{lt-ltb, le-ltb}
+use Rattle.text.specs.Digits.{hex_glyph}
+use borrow.Author.Rules.{rules}
+use Rattle.text.proofs.hex_glyph.Goals as goal
+
+pub returns-then-d-lt10 : goal.returns-then-d-lt10
+unfolding hex_glyph
+returns-then-d-lt10 c =
+    simp (lt-ltb _ _ c.if-d-lt10.true)
+
+pub returns-else-d-lt10 : goal.returns-else-d-lt10
+unfolding hex_glyph
+returns-else-d-lt10 c =
+    simp (le-ltb _ _ c.if-d-lt10.false)

@@ -1,0 +1,27 @@
+-- `text::put_hex` meets its contract: each turn lays the octet at i.
+use Prim.Native.Nat.{ℕ, ◌-◌}
+use mathlib.Core.Path.{◌≡◌, refl, sym, ap}
+use mathlib.Core.List.{List}
+use native.Mathlib.Omega.{arith}
+use lib.ListN.{length}
+use Rattle.text.specs.Digits.{hex_text}
+use Rattle.text.specs.Page.{Page, page, laid}
+use Rattle.text.proofs.Laws.{StillGives, on, end}
+use Rattle.text.proofs.put_hex.Goals as goal
+
+pub loop-i-init : goal.loop-i-init
+loop-i-init c =
+    (record { kept = refl }, refl)
+
+pub loop-i-preserved : goal.loop-i-preserved
+unfolding laid hex_text
+loop-i-preserved c = (
+  on c.loop-i.invariant.0 (omega arith)
+      (λ l. ap (λ (p : Page). laid p (hex_text l)) (sym c.put_octet-at.ensures)),
+  omega arith,
+)
+
+pub returns : goal.returns
+unfolding laid hex_text
+returns c =
+    end c.loop-i.invariant.0 (omega arith)
