@@ -13,7 +13,7 @@ returns-in-Ok c =
     let g = c.well_formed.0 in
     λ o e h.
     let f = front-is l p o _ _ _ e h c.write_to_slice-written.ensures _ c.in-Ok.is in
-    c.read.ensures ∙ ap kept_of (ap (read_request l) (c.front.ensures ∙ f) ∙ read-written l (pairs_of p) o (values-held p _ g) (request-held l p o (places p _ g) e))
+    c.read.ensures ∙ ap kept_of (ap (read_request l) (c.front.ensures.result_value ∙ f) ∙ read-written l (pairs_of p) o (values-held p _ g) (request-held l p o (places p _ g) e))
 
 pub returns-in-Err : goal.returns-in-Err
 returns-in-Err c =

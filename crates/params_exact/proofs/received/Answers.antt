@@ -13,7 +13,7 @@ returns c =
     let l = a.list.now in
     let o : Octets s = λ i. omega (arith, c.shared_slice_known-1.given i) in
     let v = c.judge_in-verdict.ensures in
-    let d = c.app_data_in.ensures in
+    let d = c.app_data_in.ensures.result_value in
     record {
       commands = λ ps t. read-commands a.form l s ps o
           (record { record_of = t.record_of; accepted = sym v ∙ t.accepted; type-is = t.type-is; read = ap (read_request l) (sym d) ∙ kept_gives _ ps (sym c.read-read.ensures ∙ t.read) });

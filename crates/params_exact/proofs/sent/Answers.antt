@@ -17,7 +17,7 @@ returns-in-Ok c =
     let l = c.args.list.now in
     let g = c.well_formed.1.0 in
     λ o e h u.
-    let f = c.front.ensures ∙ front-is l p o _ _ _ e h c.write_to_slice-written.ensures _ c.in-Ok.is in
+    let f = c.front.ensures.result_value ∙ front-is l p o _ _ _ e h c.write_to_slice-written.ensures _ c.in-Ok.is in
     subst (λ (x : List ℕ). request_for l (pairs_of p) ≡ gives x → Sendable t x c.args.buf.now → Arrives t x (pairs_of p) c.carried.result) f
     (c.carried.ensures (pairs_of p) (values-held p _ g))
     (request-held l p o (places p _ g) e)
