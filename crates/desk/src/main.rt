@@ -68,11 +68,7 @@ fn sent(rt: &impl Print, tracker: Tracker, command: &[u8]) -> io::Result<Tracker
 fn reported(rt: &impl Print, tracker: Tracker, subtype: u8, data: &[u8]) -> io::Result<Tracker> {
     let mut buf = [0u8; 29];
     let n = written(subtype, data, &mut buf);
-    told(
-        rt,
-        b"report",
-        tracker.report(TIME_LEN, text::part(&buf, 0, n)),
-    )
+    told(rt, b"report", tracker.report(TIME_LEN, text::part(&buf, 0, n)))
 }
 
 // How many octets the report has.
@@ -100,8 +96,8 @@ fn written(subtype: u8, data: &[u8], buf: &mut [u8]) -> usize {
 
 // ---- a parameter command
 
-// Sets an octet and a signed value of three; the third parameter is not set. The other command is no set request.
-fn set_parameters(rt: &impl Print, command: &[u8], other: &[u8]) -> io::Result<()> {
+// Sets an octet and a signed value of three; the third parameter is not set.
+fn set_parameters(rt: &impl Print, command: &[u8]) -> io::Result<()> {
     let list = [[7u16, 3, 4], [8, 4, 13], [9, 5, 1]];
     let octet = Pair {
         id: 7,
@@ -111,20 +107,16 @@ fn set_parameters(rt: &impl Print, command: &[u8], other: &[u8]) -> io::Result<(
         id: 8,
         value: Value::Signed(-1),
     };
-    let first = Params::new().push(octet);
-    let both = first.params.push(signed);
+    let params = Params::new().push(octet).push(signed);
     let mut data = [0u8; 9];
-    both.params.write_to_slice(&list, &mut data);
+    params.write_to_slice(&list, &mut data);
     let mut hex = [b' '; 19];
     text::put_hex(&mut hex, 1, &data);
     say(rt, b"set request")?;
     say(rt, &hex)?;
     say(rt, b"\n")?;
-    told_pairs(rt, set_request::read(&list, command))?;
-    told_pairs(rt, set_request::read(&list, other))?;
-    told_pairs(rt, Params::read(&list, text::part(&data, 0, 8)))?;
-    // The third parameter, pi as a single.
-    told_pairs(rt, Params::read(&list, &[1, 0, 9, 0x40, 0x49, 0x0F, 0xDB]))
+    told_pairs(rt, Params::read(&list, tc_read::app_data(command, true)))?;
+    told_pairs(rt, Params::read(&list, text::part(&data, 0, 8)))
 }
 
 fn told_pairs(rt: &impl Print, r: ParamsRead) -> io::Result<()> {
@@ -163,21 +155,11 @@ fn say_value(rt: &impl Print, value: Value) -> io::Result<()> {
             print!(rt; "{n}")
         }
         Value::Signed(z) => say_signed(rt, z),
-        Value::Single(_) => say_real(rt, b"=single 0x", 1, 4, value),
-        Value::SingleNan(_) => say_real(rt, b"=NaN 0x", 1, 4, value),
-        Value::Double(_) => say_real(rt, b"=double 0x", 2, 8, value),
-        Value::DoubleNan(_) => say_real(rt, b"=NaN 0x", 2, 8, value),
+        Value::Single(_) => say(rt, b"=single"),
+        Value::SingleNan(_) => say(rt, b"=NaN"),
+        Value::Double(_) => say(rt, b"=double"),
+        Value::DoubleNan(_) => say(rt, b"=NaN"),
     }
-}
-
-// A real by its bits, which tell every one from the others.
-fn say_real(rt: &impl Print, what: &[u8], pfc: u16, count: usize, value: Value) -> io::Result<()> {
-    let mut octets = [0u8; 8];
-    param_value::write_value(5, pfc, value, &mut octets);
-    let mut hex = [0u8; 16];
-    let n = text::put_hex(&mut hex, 0, text::part(&octets, 0, count));
-    say(rt, what)?;
-    say(rt, text::part(&hex, 0, n))
 }
 
 fn say_signed(rt: &impl Print, z: i64) -> io::Result<()> {
@@ -217,5 +199,5 @@ fn main(rt: HostRuntime) -> io::Result<()> {
         0x00, 0x08, 0xFF, 0xFF, 0xFF, 0x16, 0x1A,
     ];
     sent(&rt, t, &command)?;
-    set_parameters(&rt, &command, &ping)
+    set_parameters(&rt, &command)
 }

@@ -1,18 +1,11 @@
 -- What a program prints of its input, and how it stands in a buffer.
-use Rattle.std.specs.Prelude.{ℕ, ◌+◌, ◌≤◌, ◌≡◌, List, ◌++◌, Option, length, take}
+use Rattle.std.specs.Prelude.{ℕ, ◌≤◌, ◌≡◌, List, ◌++◌, Option, length, take}
 use Rattle.std.specs.Io.KnownBytes.{Appends}
 use Rattle.text.specs.Ascii.{ascii}
 use Rattle.text.specs.Page.{page, at_start}
 use Rattle.input.specs.Reading.{Within}
 use Rattle.input.specs.declared.Input.{Input}
 use Rattle.input.specs.declared.Input.TheVariants.{Octets, Failed}
-
--- a program takes so many octets; it reads up to one more, which tells that there are more
-abbrev pub most_octets : ℕ
-most_octets = 65536
-
-abbrev pub read_octets : ℕ
-read_octets = most_octets + 1
 
 -- its report of the octets that were read, or behind its first line that they cannot be read
 unfoldable pub printed_by : List ℕ → (List ℕ → List ℕ) → Input → List ℕ → List ℕ
@@ -26,11 +19,11 @@ pub record Rendered (room : ℕ) (t before : List ℕ) (n : ℕ) (after : List �
   -- which is all of it where there are `room` octets
   pub whole : length t ≤ room
 
--- what a program's run does to the octets that its writer holds: behind them it puts what is printed of an input, which has as many of
--- the buffer's octets as it says, and nothing else
+-- what a program's run does to the octets that its writer holds: behind them it puts what is printed of an input, of which it has
+-- read no more octets than its buffer holds, and nothing else
 pub record Prints (printed : Input → List ℕ → List ℕ) (before after : Option (List ℕ)) : Type 0 where
   pub input : Input
   pub buffer : List ℕ
-  pub whole : length buffer ≡ read_octets
-  pub within : Within input read_octets
+  pub whole : length buffer ≡ 65537
+  pub within : Within input (length buffer)
   pub shown : Appends before after (printed input buffer)
