@@ -68,7 +68,11 @@ fn sent(rt: &impl Print, tracker: Tracker, command: &[u8]) -> io::Result<Tracker
 fn reported(rt: &impl Print, tracker: Tracker, subtype: u8, data: &[u8]) -> io::Result<Tracker> {
     let mut buf = [0u8; 29];
     let n = written(subtype, data, &mut buf);
-    told(rt, b"report", tracker.report(TIME_LEN, text::part(&buf, 0, n)))
+    told(
+        rt,
+        b"report",
+        tracker.report(TIME_LEN, text::part(&buf, 0, n)),
+    )
 }
 
 // How many octets the report has.
