@@ -96,8 +96,8 @@ fn written(subtype: u8, data: &[u8], buf: &mut [u8]) -> usize {
 
 // ---- a parameter command
 
-// Sets an octet and a signed value of three; the third parameter is not set. The other command is no set request.
-fn set_parameters(command: &[u8], other: &[u8]) {
+// Sets an octet and a signed value of three; the third parameter is not set.
+fn set_parameters(command: &[u8]) {
     let list = [[7u16, 3, 4], [8, 4, 13], [9, 5, 1]];
     let octet = Pair {
         id: 7,
@@ -107,20 +107,16 @@ fn set_parameters(command: &[u8], other: &[u8]) {
         id: 8,
         value: Value::Signed(-1),
     };
-    let first = Params::new().push(octet);
-    let both = first.params.push(signed);
+    let params = Params::new().push(octet).push(signed);
     let mut data = [0u8; 9];
-    both.params.write_to_slice(&list, &mut data);
+    params.write_to_slice(&list, &mut data);
     let mut hex = [b' '; 19];
     text::put_hex(&mut hex, 1, &data);
     say(b"set request");
     say(&hex);
     say(b"\n");
-    told_pairs(set_request::read(&list, command));
-    told_pairs(set_request::read(&list, other));
+    told_pairs(Params::read(&list, tc_read::app_data(command, true)));
     told_pairs(Params::read(&list, text::part(&data, 0, 8)));
-    // The third parameter, pi as a single.
-    told_pairs(Params::read(&list, &[1, 0, 9, 0x40, 0x49, 0x0F, 0xDB]));
 }
 
 fn told_pairs(r: ParamsRead) {
@@ -159,21 +155,11 @@ fn say_value(value: Value) {
             io::print_decimal(STDOUT_FILENO, n);
         }
         Value::Signed(z) => say_signed(z),
-        Value::Single(_) => say_real(b"=single 0x", 1, 4, value),
-        Value::SingleNan(_) => say_real(b"=NaN 0x", 1, 4, value),
-        Value::Double(_) => say_real(b"=double 0x", 2, 8, value),
-        Value::DoubleNan(_) => say_real(b"=NaN 0x", 2, 8, value),
+        Value::Single(_) => say(b"=single"),
+        Value::SingleNan(_) => say(b"=NaN"),
+        Value::Double(_) => say(b"=double"),
+        Value::DoubleNan(_) => say(b"=NaN"),
     }
-}
-
-// A real by its bits, which tell every one from the others.
-fn say_real(what: &[u8], pfc: u16, count: usize, value: Value) {
-    let mut octets = [0u8; 8];
-    param_value::write_value(5, pfc, value, &mut octets);
-    let mut hex = [0u8; 16];
-    let n = text::put_hex(&mut hex, 0, text::part(&octets, 0, count));
-    say(what);
-    say(text::part(&hex, 0, n));
 }
 
 fn say_signed(z: i64) {
@@ -212,5 +198,5 @@ fn main() {
         0x00, 0x08, 0xFF, 0xFF, 0xFF, 0x16, 0x1A,
     ];
     sent(t, &command);
-    set_parameters(&command, &ping);
+    set_parameters(&command);
 }

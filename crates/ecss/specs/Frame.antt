@@ -119,15 +119,6 @@ abbrev pub data_at : ℕ → Answer ℕ → ℕ
 data_at start (refuses e) = 0
 data_at start (gives n) = start
 
--- a part l, and the place n at which it begins, behind a check: where that refuses, the empty part at the start
-abbrev pub part_after : Passed → List ℕ → List ℕ
-part_after (refuses e) l = []
-part_after (gives u) l = l
-
-abbrev pub at_after : Passed → ℕ → ℕ
-at_after (refuses e) n = 0
-at_after (gives u) n = n
-
 -- ---- octets compared
 
 unfoldable pub same_octets : List ℕ → List ℕ → Bool

@@ -6,7 +6,6 @@ use Rattle.space_packet.specs.Answer.{Answer, gives, refuses}
 use Rattle.space_packet.specs.Bits.{pick}
 use Rattle.gaps.specs.Gaps.{Rows, Outcome, gaps_of}
 use Rattle.gaps.specs.declared.Totals.{Totals}
-use Rattle.input.specs.Printing.{most_octets}
 
 -- APID, expected and found
 unfoldable pub row_text : List ℕ → List ℕ
@@ -31,7 +30,7 @@ gaps_text o = rows_text o.rows ++ end_text o.answer
 
 -- the gaps and the end, with a list of 5,041 places; of more than 65,536 octets, that they are too long
 unfoldable pub body_text : List ℕ → List ℕ
-body_text capture = pick (ltb most_octets (length capture)) (ascii "too long\n") (gaps_text (gaps_of 5041 capture))
+body_text capture = pick (ltb 65536 (length capture)) (ascii "too long\n") (gaps_text (gaps_of 5041 capture))
 
 unfoldable pub report_text : List ℕ → List ℕ
 report_text capture = ascii "tcgaps 1\n" ++ body_text capture

@@ -5,7 +5,7 @@ ghost use Rattle.std.specs.Prelude.{◌≡◌, ◌≤◌, length, take};
 ghost use Rattle.io.specs.Counts.{IsPrefixLen};
 ghost use Rattle.text.specs.Page.{page, laid};
 ghost use Rattle.gaps.specs.Gaps.{totals_answer, gaps_of};
-ghost use Rattle.input.specs.Printing.{Rendered, read_octets};
+ghost use Rattle.input.specs.Printing.{Rendered};
 ghost use Rattle.gap_report.specs.Report.{row_text, rows_text, total_text, end_text, gaps_text, body_text, report_text, room};
 ghost use Rattle.gap_report.specs.Program.{printed};
 
@@ -103,7 +103,7 @@ const ROOM: usize = 9 + 2 * 65536 + 40;
 
 // Puts what is printed of an input at the start of out, and answers how many characters it has.
 fn answer(input: Input, buf: &[u8], out: &mut [u8]) -> usize
-    requires { (length buf.now ≡ read_octets) × (room ≤ length out.old) }
+    requires { room ≤ length out.old }
     ensures prefix_len { IsPrefixLen result out.new }
     ensures out_after { take result out.new ≡ printed input buf.now }
 {

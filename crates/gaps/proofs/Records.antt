@@ -1,27 +1,15 @@
 -- A row as a record, by the answers of the three checks.
 use Prim.Native.Nat.{ℕ}
-use mathlib.Core.Bool.{Bool, true, false}
-use mathlib.Core.List.{[], ◌∷◌}
-use mathlib.Core.Path.{◌≡◌, refl, sym, ◌∙◌}
-use lib.Dec.{ltb}
-use Rattle.space_packet.specs.Answer.{Passed, Numbers, refusal, gives, refuses, refuse_if, in_range, ◌then◌}
+use mathlib.Core.Path.{◌≡◌, sym, ◌∙◌}
+use Rattle.space_packet.specs.Answer.{Passed, Numbers, gives, refuses, in_range, ◌then◌}
 use Rattle.space_packet.specs.declared.Apid.{Apid}
 use Rattle.space_packet.specs.declared.SeqCount.{SeqCount}
-use Rattle.space_packet.proofs.Answers.{gives-inj, never, then-gives, gives_then, refuses-then, range-passes}
+use Rattle.space_packet.proofs.Answers.{gives-inj, then-gives, gives_then, refuses-then}
 use Rattle.gaps.specs.Records.{gap_in}
 
 -- a check that gives a value has passed, and the value is that
 pub passed : {A : Type 0} (p : Passed) (v x : A) → (p then λ _. gives v) ≡ gives x → (p ≡ gives tt) × (v ≡ x)
 passed p v x e = let q = then-gives p (λ _. gives v) x e in (q.1, gives-inj v x q.2)
-
-refused-by : (b : Bool) (d e x : Numbers) → ◌≡◌ {A = Passed} (refuse_if b d (gives tt)) (refuses x) → ◌≡◌ {A = Passed} (refuse_if b e (gives tt)) (refuses e)
-unfolding refuse_if
-refused-by true d e x h = refl
-refused-by false d e x h = absurd (never tt x (sym h))
-
--- a value that is over its width at one place is so at another
-pub over-at : (place other largest value : ℕ) (x : Numbers) → in_range other largest value ≡ refuses x → in_range place largest value ≡ refuses (refusal 7 (place ∷ value ∷ []))
-over-at place other largest value x h = refused-by (ltb largest value) (refusal 7 (other ∷ value ∷ [])) (refusal 7 (place ∷ value ∷ [])) x h
 
 module _ (a e f : ℕ) where
   pub apid-over : (x : Numbers) → in_range 2 2047 a ≡ refuses x → refuses x ≡ gap_in a e f
@@ -34,16 +22,13 @@ module _ (a e f : ℕ) where
     expected-over x q = sym (gives_then (in_range 2 2047 a) _ tt p ∙ refuses-then (in_range 3 16383 e) _ x q)
 
     module _ (q : in_range 3 16383 e ≡ gives tt) where
-      -- the count that was found is told at a place of its own, not at that of `SeqCount::new`
-      pub found-over : (x : Numbers) → in_range 3 16383 f ≡ refuses x → refuses (refusal 7 (6 ∷ f ∷ [])) ≡ gap_in a e f
+      pub found-over : (x : Numbers) → in_range 3 16383 f ≡ refuses x → refuses x ≡ gap_in a e f
       unfolding gap_in
-      found-over x r =
-          sym (gives_then (in_range 2 2047 a) _ tt p ∙ gives_then (in_range 3 16383 e) _ tt q ∙ refuses-then (in_range 6 16383 f) _ _ (over-at 6 3 16383 f x r))
+      found-over x r = sym (gives_then (in_range 2 2047 a) _ tt p ∙ gives_then (in_range 3 16383 e) _ tt q ∙ refuses-then (in_range 3 16383 f) _ x r)
 
       pub all-within : (x : Apid) (y z : SeqCount) → in_range 3 16383 f ≡ gives tt → record { 0 = a } ≡ x → record { 0 = e } ≡ y → record { 0 = f } ≡ z
           → gives (record { apid = x; expected = y; found = z }) ≡ gap_in a e f
       unfolding gap_in
       all-within x y z r i j k =
           (λ m. gives (record { apid = sym i m; expected = sym j m; found = sym k m }))
-          ∙ sym (gives_then (in_range 2 2047 a) _ tt p ∙ gives_then (in_range 3 16383 e) _ tt q
-          ∙ gives_then (in_range 6 16383 f) _ tt ((range-passes 6 16383 f).1 ((range-passes 3 16383 f).0 r)))
+          ∙ sym (gives_then (in_range 2 2047 a) _ tt p ∙ gives_then (in_range 3 16383 e) _ tt q ∙ gives_then (in_range 3 16383 f) _ tt r)

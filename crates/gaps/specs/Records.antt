@@ -8,9 +8,9 @@ use Rattle.gaps.specs.declared.GapResult.TheVariants as G
 abbrev pub gap_from : ℕ → ℕ → ℕ → Gap
 gap_from a e f = record { apid = record { 0 = a }; expected = record { 0 = e }; found = record { 0 = f } }
 
--- 7 for the APID (place 2), the count that was expected (place 3) and the one that was found (place 6, which no header has)
+-- 7 for the APID (place 2), the count that was expected and the one that was found (place 3)
 unfoldable pub gap_in : ℕ → ℕ → ℕ → Answer Gap
-gap_in a e f = in_range 2 2047 a then λ _. in_range 3 16383 e then λ _. in_range 6 16383 f then λ _. gives (gap_from a e f)
+gap_in a e f = in_range 2 2047 a then λ _. in_range 3 16383 e then λ _. in_range 3 16383 f then λ _. gives (gap_from a e f)
 
 abbrev pub gap_of_row : List ℕ → Answer Gap
 gap_of_row row = gap_in (get_or row 0 0) (get_or row 1 0) (get_or row 2 0)

@@ -65,8 +65,7 @@ impl Gap {
     {
         let a = Apid::new(row[0]);
         let e = SeqCount::new(row[1]);
-        let last = row[2];
-        let f = SeqCount::new(last);
+        let f = SeqCount::new(row[2]);
         let apid = match a {
             ApidResult::Ok(x) => x,
             ApidResult::Err(error) => return GapResult::Err(error),
@@ -75,15 +74,9 @@ impl Gap {
             SeqCountResult::Ok(x) => x,
             SeqCountResult::Err(error) => return GapResult::Err(error),
         };
-        // Its place is another than that of the count before it, so that a refusal tells which of the two it is of.
         let found = match f {
             SeqCountResult::Ok(x) => x,
-            SeqCountResult::Err(_) => {
-                return GapResult::Err(PusError::FieldRange {
-                    place: 6,
-                    value: last,
-                });
-            }
+            SeqCountResult::Err(error) => return GapResult::Err(error),
         };
         GapResult::Ok(Gap {
             apid,

@@ -1,16 +1,9 @@
 -- What a program prints of its input, and how it stands in a buffer.
-use Rattle.std.specs.Prelude.{ℕ, ◌+◌, ◌≤◌, ◌≡◌, List, ◌++◌, length, take}
+use Rattle.std.specs.Prelude.{ℕ, ◌≤◌, ◌≡◌, List, ◌++◌, length, take}
 use Rattle.text.specs.Ascii.{ascii}
 use Rattle.text.specs.Page.{page, at_start}
 use Rattle.input.specs.declared.Input.{Input}
 use Rattle.input.specs.declared.Input.TheVariants.{Octets, Failed}
-
--- a program takes so many octets; it reads up to one more, which tells that there are more
-abbrev pub most_octets : ℕ
-most_octets = 65536
-
-abbrev pub read_octets : ℕ
-read_octets = most_octets + 1
 
 -- its report of the octets that were read, or behind its first line that they cannot be read
 unfoldable pub printed_by : List ℕ → (List ℕ → List ℕ) → Input → List ℕ → List ℕ

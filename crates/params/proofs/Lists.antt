@@ -1,14 +1,14 @@
 -- Laws of the list of parameters: its check row by row, and its search.
 use Prim.Native.Nat.{ℕ, zero, suc, ◌+◌, ◌≤◌, ◌<◌}
 use mathlib.Core.Path.{◌≡◌, refl, sym, ap, ◌∙◌}
-use mathlib.Core.Bool.{Bool, true, false, not, ◌&&◌, ◌||◌, and-eq-true_iff, false≢true}
+use mathlib.Core.Bool.{Bool, true, false, not, ◌&&◌, ◌||◌, and-eq-true_iff}
 use mathlib.Core.List.{List, [], ◌∷◌}
 use native.Mathlib.Omega.{arith}
 use native.Mathlib.Numerals.{add-one}
 use lib.ListN.{length, drop, get_or}
 use lib.Seq.{drop-cons, drop-length}
 use lib.Dec.{eqb, ltb}
-use borrow.Author.Tests.{eq-eqb, ne_eqb, eqb-true, not-false}
+use borrow.Author.Tests.{eq-eqb, ne_eqb, not-false}
 use Rattle.space_packet.specs.Bits.{pick}
 use Rattle.space_packet.specs.Answer.{gives}
 use Rattle.space_packet.proofs.Answers.{refuse-gives}
@@ -84,13 +84,3 @@ known-not l id g e = known_by l id g ∙ ap not (eq-eqb (octets_by (row_of l id)
 
 pub known_some : (l : List Row) (id : ℕ) → list_good l ≡ true → (octets_by (row_of l id) ≡ 0 → ⊥) → known l id ≡ true
 known_some l id g e = known_by l id g ∙ ap not (ne_eqb (octets_by (row_of l id)) 0 e)
-
--- the row of a parameter that the list has is of its ID
-pub found-id : (l : List Row) (id : ℕ) → known l id ≡ true → id_of (row_of l id) ≡ id
-unfolding known row_of
-found-id [] id e = absurd (false≢true e)
-found-id (r ∷ l) id e = by-test (eqb (id_of r) id) refl (found-id l id) e
-  where
-    by-test : (b : Bool) → eqb (id_of r) id ≡ b → (known l id ≡ true → id_of (row_of l id) ≡ id) → (b || known l id) ≡ true → id_of (pick b r (row_of l id)) ≡ id
-    by-test true t f k = eqb-true (id_of r) id t
-    by-test false t f k = f k

@@ -90,18 +90,6 @@ filled-set [] (q ∷ rest) p (suc i) e h = absurd (omega arith)
 filled-set (x ∷ ps) rest p zero e h = absurd (omega arith)
 filled-set (x ∷ ps) rest p (suc i) e h = ap (λ (l : List Pair). x ∷ l) (filled-set ps rest p i (omega arith) h)
 
--- one place more is in use
-pub places-on : (ps : List Pair) (p : Pair) (i : ℕ) → length ps ≡ i → i < 255
-    → set (ps ++ drop (length ps) (replicate 255 blank)) i p ≡ (ps ++ (p ∷ [])) ++ drop (length (ps ++ (p ∷ []))) (replicate 255 blank)
-places-on ps p i e h =
-    let b = replicate 255 blank in
-    let t = length-drop (length ps) b in
-    let u : length b ≡ 255 = length-replicate 255 blank in
-    let len = length-append ps (p ∷ []) in
-    let v : length ps + 1 ≡ length (ps ++ (p ∷ [])) = omega arith in
-    filled-set ps (drop (length ps) b) p i e (omega arith)
-    ∙ ap (λ (x : List Pair). (ps ++ (p ∷ [])) ++ x) (drop-drop 1 (length ps) b ∙ ap (λ (j : ℕ). drop j b) v)
-
 -- ---- pairs, one after the other
 
 -- what was read, before what is read next
@@ -145,12 +133,19 @@ module _ (l : List Row) (d : List ℕ) (n i at : ℕ) (pairs : List Pair) (r : R
       let w = r.so_far in
       let len = length-append s (p ∷ []) in
       let m : length (s ++ (p ∷ [])) ≡ i + 1 = omega arith in
+      let b = replicate 255 blank in
+      let t = length-drop (length s) b in
+      let u : length b ≡ 255 = length-replicate 255 blank in
+      let v : length s + 1 ≡ length (s ++ (p ∷ [])) = omega arith in
       record {
         read = s ++ (p ∷ []);
         so_far = m;
         upto = omega arith;
         within = end-within l d at f e;
-        places = ap (λ (x : List Pair). set x i p) r.places ∙ places-on s p i w (omega arith);
+        places =
+            ap (λ (x : List Pair). set x i p) r.places
+            ∙ filled-set s (drop (length s) b) p i w (omega arith)
+            ∙ ap (λ (x : List Pair). (s ++ (p ∷ [])) ++ x) (drop-drop 1 (length s) b ∙ ap (λ (j : ℕ). drop j b) v);
         rest = r.rest ∙ ap (onward s) (next-pair h ∙ gives_then _ _ f e) ∙ onward-behind s p (read_pairs l d (n - (i + 1)) f.end);
       }
 

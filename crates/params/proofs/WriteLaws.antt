@@ -24,7 +24,7 @@ use Rattle.param_value.proofs.Types.{octets-le}
 use Rattle.param_value.proofs.Calls.{octets-refused, octets-given, wrote-refused, wrote-given}
 use Rattle.param_value.proofs.RoundTrip.{written-length}
 use Rattle.params.specs.Parameters.{Row, ptc_of, pfc_of, list_check, known, row_of}
-use Rattle.params.specs.Request.{octets_in, ids_known, pair_octets, pairs_octets, request_octets, WroteRequest, length_of}
+use Rattle.params.specs.Request.{octets_in, ids_known, pair_octets, pairs_octets, request_octets, length_of}
 use Rattle.params.specs.Places.{HasRoom}
 use Rattle.params.specs.declared.Pair.{Pair}
 use Rattle.params.proofs.ReadLaws.{tail-is}
@@ -166,39 +166,39 @@ pairs-ten l (p ∷ ps) o e =
 
 -- ---- the request
 
-module _ (l : List Row) (ps : List Pair) where
-  pub request-list : (e : Numbers) → list_check l ≡ refuses e → request_octets l ps ≡ refuses e
+module _ (l : List Row) (n : ℕ) (ps : List Pair) where
+  pub request-list : (e : Numbers) → list_check l ≡ refuses e → request_octets l n ps ≡ refuses e
   unfolding request_octets
   request-list e h = refuses-then _ _ e h
 
-  pub request-ids : list_check l ≡ gives tt → ids_known l ps ≡ false → request_octets l ps ≡ refuses (refusal 22 [])
+  pub request-ids : list_check l ≡ gives tt → ids_known l ps ≡ false → request_octets l n ps ≡ refuses (refusal 22 [])
   unfolding request_octets
   request-ids g h = gives_then _ _ tt g ∙ refuse-yes _ _ _ (ap not h)
 
-  pub request-many : list_check l ≡ gives tt → ids_known l ps ≡ true → 255 < length ps → request_octets l ps ≡ refuses (refusal 24 [])
+  pub request-many : list_check l ≡ gives tt → ids_known l ps ≡ true → 255 < n → request_octets l n ps ≡ refuses (refusal 24 [])
   unfolding request_octets
-  request-many g h k = gives_then _ _ tt g ∙ refuse-no _ _ _ (ap not h) ∙ refuse-yes _ _ _ (lt-ltb 255 (length ps) k)
+  request-many g h k = gives_then _ _ tt g ∙ refuse-no _ _ _ (ap not h) ∙ refuse-yes _ _ _ (lt-ltb 255 n k)
 
-  pub request-pairs : list_check l ≡ gives tt → ids_known l ps ≡ true → length ps ≤ 255 → request_octets l ps ≡ (pairs_octets l ps then λ o. gives (length ps ∷ o))
+  pub request-pairs : list_check l ≡ gives tt → ids_known l ps ≡ true → n ≤ 255 → request_octets l n ps ≡ (pairs_octets l ps then λ o. gives (n ∷ o))
   unfolding request_octets
-  request-pairs g h k = gives_then _ _ tt g ∙ refuse-no _ _ _ (ap not h) ∙ refuse-no _ _ _ (le-ltb 255 (length ps) k)
+  request-pairs g h k = gives_then _ _ tt g ∙ refuse-no _ _ _ (ap not h) ∙ refuse-no _ _ _ (le-ltb 255 n k)
 
   pub record RequestIs (o : List ℕ) : Type 0 where
     pub list-good : list_check l ≡ gives tt
     pub ids : ids_known l ps ≡ true
-    pub few : length ps ≤ 255
+    pub few : n ≤ 255
     pub pairs : List ℕ
     pub are : pairs_octets l ps ≡ gives pairs
-    pub is : length ps ∷ pairs ≡ o
+    pub is : n ∷ pairs ≡ o
 
-  pub request-is : (o : List ℕ) → request_octets l ps ≡ gives o → RequestIs o
+  pub request-is : (o : List ℕ) → request_octets l n ps ≡ gives o → RequestIs o
   unfolding request_octets
   request-is o e =
       let t = then-gives (list_check l) _ o e in
       let p = refuse-gives _ _ _ o t.2 in
       let q = refuse-gives _ _ _ o p.1 in
       let u = then-gives (pairs_octets l ps) _ o q.1 in
-      record { list-good = t.1; ids = not-false _ p.0; few = ltb-false 255 (length ps) q.0; pairs = u.0; are = u.1; is = gives-inj _ o u.2 }
+      record { list-good = t.1; ids = not-false _ p.0; few = ltb-false 255 n q.0; pairs = u.0; are = u.1; is = gives-inj _ o u.2 }
 
 -- the octets behind the count
 pub counted-length : (a : Answer (List ℕ)) (n k : ℕ) → length_of a ≡ gives k → length_of (a then λ o. gives (n ∷ o)) ≡ gives (1 + k)
@@ -405,14 +405,14 @@ counted-over [] o n h = absurd (omega arith)
 counted-over (x ∷ b) o n h =
     let z : 1 + length o ≡ suc (length o) = omega arith in ap (λ (k : ℕ). n ∷ o ++ drop k (n ∷ b)) z
 
-module _ (l : List Row) (ps : List Pair) (total : ℕ) (before : List ℕ) (p : length_of (request_octets l ps) ≡ gives total) (h : total ≤ length before) where
-  abbrev whole : (o : List ℕ) × (request_octets l ps ≡ gives o) × (length o ≡ total)
-  whole = length-is (request_octets l ps) total p
+module _ (l : List Row) (n : ℕ) (ps : List Pair) (total : ℕ) (before : List ℕ) (p : length_of (request_octets l n ps) ≡ gives total) (h : total ≤ length before) where
+  abbrev whole : (o : List ℕ) × (request_octets l n ps ≡ gives o) × (length o ≡ total)
+  whole = length-is (request_octets l n ps) total p
 
-  abbrev parts-of : RequestIs l ps whole.0
-  parts-of = request-is l ps whole.0 whole.1
+  abbrev parts-of : RequestIs l n ps whole.0
+  parts-of = request-is l n ps whole.0 whole.1
 
-  pub count_fits : length ps ≤ 255
+  pub count_fits : n ≤ 255
   count_fits = parts-of.few
 
   pub total-is : suc (length parts-of.pairs) ≡ total
@@ -421,30 +421,28 @@ module _ (l : List Row) (ps : List Pair) (total : ℕ) (before : List ℕ) (p : 
   pub pairs-room : (m : ℕ) → m ≡ length before → HasRoom (pairs_octets l ps) 1 m
   pairs-room m e = let t = total-is in record { octets = parts-of.pairs; are = parts-of.are; room = omega (arith, t, h, e) }
 
-  -- the count n is stored, and the pairs stand behind it
-  abbrev Stored : ℕ → List ℕ → Type 0
-  Stored n after = after ≡ take 1 (set before 0 n) ++ given_by (pairs_octets l ps) ++ drop (1 + length (given_by (pairs_octets l ps))) (set before 0 n)
+  -- the count is stored, and the pairs stand behind it
+  abbrev Stored : List ℕ → Type 0
+  Stored after = after ≡ take 1 (set before 0 n) ++ given_by (pairs_octets l ps) ++ drop (1 + length (given_by (pairs_octets l ps))) (set before 0 n)
 
-  module _ (n : ℕ) (counted : n ≡ length ps) (after : List ℕ) (e : Stored n after) where
-    stored-left : after ≡ whole.0 ++ drop (length whole.0) before
-    stored-left =
-        let t = total-is in
-        e ∙ ap (λ (x : List ℕ). take 1 (set before 0 n) ++ x ++ drop (1 + length x) (set before 0 n)) (ap given_by parts-of.are)
-        ∙ counted-over before parts-of.pairs n (omega (arith, t, h))
-        ∙ ap (λ (k : ℕ). (k ∷ parts-of.pairs) ++ drop (length (k ∷ parts-of.pairs)) before) counted
-        ∙ ap (λ (x : List ℕ). x ++ drop (length x) before) parts-of.is
+  stored-left : (after : List ℕ) → Stored after → after ≡ whole.0 ++ drop (length whole.0) before
+  stored-left after e =
+      let t = total-is in
+      e ∙ ap (λ (x : List ℕ). take 1 (set before 0 n) ++ x ++ drop (1 + length x) (set before 0 n)) (ap given_by parts-of.are)
+      ∙ counted-over before parts-of.pairs n (omega (arith, t, h))
+      ∙ ap (λ (x : List ℕ). x ++ drop (length x) before) parts-of.is
 
-    pub done-length : length after ≡ length before
-    done-length =
-        let o = whole.0 in
-        let a = ap length stored-left ∙ length-append o (drop (length o) before) in
-        let d = length-drop (length o) before in
-        let w = whole.2 in omega (arith, a, d, w, h)
+  pub done-length : (after : List ℕ) → Stored after → length after ≡ length before
+  done-length after e =
+      let o = whole.0 in
+      let a = ap length (stored-left after e) ∙ length-append o (drop (length o) before) in
+      let d = length-drop (length o) before in
+      let w = whole.2 in omega (arith, a, d, w, h)
 
-    pub wrote-done : WroteRequest l ps before (S.Ok total) after
-    wrote-done =
-        let o = whole.0 in
-        let w = whole.2 in
-        let g : in_buffer (length before) (length o) ≡ gives (length o) = has_room (length before) total (length o) (sym w) h in
-        wrote-given (request_octets l ps) o before (S.Ok total) after whole.1
-        (record { answered = ap gives (sym w) ∙ sym g; left = stored-left ∙ sym (left-written _ o before (length o) g) })
+  pub wrote-done : (after : List ℕ) → Stored after → Wrote (size_in (request_octets l n ps) (length before)) (given_by (request_octets l n ps)) before (S.Ok total) after
+  wrote-done after e =
+      let o = whole.0 in
+      let w = whole.2 in
+      let g : in_buffer (length before) (length o) ≡ gives (length o) = has_room (length before) total (length o) (sym w) h in
+      wrote-given (request_octets l n ps) o before (S.Ok total) after whole.1
+      (record { answered = ap gives (sym w) ∙ sym g; left = stored-left after e ∙ sym (left-written _ o before (length o) g) })

@@ -2,17 +2,14 @@
 -- it is written, by the list of the mission's parameters.
 use Rattle.std.specs.Prelude.{ℕ, zero, suc, ◌+◌, Bool, true, not, ◌&&◌, List, [], ◌∷◌, ◌++◌, length, take, drop, get_or, set, replicate, ltb}
 use Rattle.space_packet.specs.Bits.{pick, be16, word}
-use Rattle.space_packet.specs.Answer.{Answer, Passed, Kept, gives, refuses, refusal, refuse_if, ◌then◌, set_if, numbers_of, check_answer}
-use Rattle.space_packet.specs.Wrote.{Wrote}
-use Rattle.space_packet.specs.declared.SizeResult.{SizeResult}
-use Rattle.param_value.specs.Octets.{number_of, size_in, given_by}
-use Rattle.param_value.specs.Values.{value_of, value_from, value_octets}
+use Rattle.space_packet.specs.Answer.{Answer, Kept, gives, refuses, refusal, refuse_if, ◌then◌, numbers_of, check_answer}
+use Rattle.param_value.specs.Octets.{number_of, size_in}
+use Rattle.param_value.specs.Values.{value_of, value_octets}
 use Rattle.param_value.specs.declared.Value.TheVariants.{Unsigned}
 use Rattle.params.specs.Parameters.{Row, ptc_of, pfc_of, octets_by, list_check, known, row_of}
 use Rattle.params.specs.declared.Pair.{Pair}
 use Rattle.params.specs.declared.Params.{Params}
 use Rattle.params.specs.declared.ParamsRead.{ParamsRead}
-use Rattle.params.specs.declared.ParamsSet.{ParamsSet}
 use Rattle.params.specs.declared.PairAt.{PairAt}
 use Rattle.params.specs.declared.PairAt.TheVariants.{Some, None}
 use Rattle.params.specs.declared.Found.{Found}
@@ -31,24 +28,9 @@ holding ps = record { pairs = ps ++ drop (length ps) (replicate 255 blank); coun
 abbrev pub pairs_of : Params → List Pair
 pairs_of p = take p.count p.pairs
 
--- 24 where there is no place for one pair more
-abbrev pub place_check : Params → Passed
-place_check p = refuse_if (not (ltb p.count 255)) (refusal 24 []) (gives tt)
-
-abbrev pub with_pair : Params → Pair → Params
-with_pair p x = record { pairs = set p.pairs p.count x; count = p.count + 1 }
-
--- one pair more, or the record as it was
-abbrev pub pushed : Params → Pair → Kept Params
-pushed p x = set_if (place_check p) p (with_pair p x)
-
--- pairs as rows of numbers: an ID, the number of a kind, and bits
-abbrev pub pair_from : Row → Pair
-pair_from r = record { id = get_or r 0 0; value = value_from (get_or r 1 0) (get_or r 2 0) }
-
-unfoldable pub pairs_from : List Row → List Pair
-pairs_from [] = []
-pairs_from (r ∷ rs) = pair_from r ∷ pairs_from rs
+-- one pair more; of a 256th the count alone tells
+abbrev pub pushed : Params → Pair → Params
+pushed p x = pick (ltb p.count 255) (record { pairs = set p.pairs p.count x; count = p.count + 1 }) (record { pairs = p.pairs; count = 256 })
 
 -- the i-th pair, from 0 on
 abbrev pub pair_at : List Pair → ℕ → PairAt
@@ -122,32 +104,26 @@ unfoldable pub pairs_octets : List Row → List Pair → Answer (List ℕ)
 pairs_octets l [] = gives []
 pairs_octets l (p ∷ ps) = pair_octets l p then λ o. pairs_octets l ps then λ r. gives (o ++ r)
 
--- the octets of a request, of however many pairs: 21; 22, of any pair; 24, of their number or of any value
-unfoldable pub request_octets : List Row → List Pair → Answer (List ℕ)
-request_octets l ps =
-    list_check l then λ _.
-    refuse_if (not (ids_known l ps)) (refusal 22 [])
-    (refuse_if (ltb 255 (length ps)) (refusal 24 []) (pairs_octets l ps then λ o. gives (length ps ∷ o)))
+-- the octets of a request of n pairs: 21; 22, of any pair; 24
+unfoldable pub request_octets : List Row → ℕ → List Pair → Answer (List ℕ)
+request_octets l n ps =
+    list_check l then λ _. refuse_if (not (ids_known l ps)) (refusal 22 []) (refuse_if (ltb 255 n) (refusal 24 []) (pairs_octets l ps then λ o. gives (n ∷ o)))
+
+abbrev pub record_octets : List Row → Params → Answer (List ℕ)
+record_octets l p = request_octets l p.count (pairs_of p)
 
 -- how many octets an answer gives
 unfoldable pub length_of : Answer (List ℕ) → Answer ℕ
 length_of a = a then λ o. gives (length o)
 
 -- written into a buffer of m octets: 21, 22, 24, then 1
-abbrev pub write_in : List Row → List Pair → ℕ → Answer ℕ
-write_in l ps m = size_in (request_octets l ps) m
-
--- a write of pairs, and what it leaves in the buffer
-abbrev pub WroteRequest : List Row → List Pair → List ℕ → SizeResult → List ℕ → Type 0
-WroteRequest l ps before r after = Wrote (write_in l ps (length before)) (given_by (request_octets l ps)) before r after
+abbrev pub write_in : List Row → Params → ℕ → Answer ℕ
+write_in l p m = size_in (record_octets l p) m
 
 -- ---- the answers of this crate's calls
 
 abbrev pub params_kept : ParamsRead → Kept Params
 params_kept r = record { passed = check_answer r.result; kept = r.params }
-
-abbrev pub set_kept : ParamsSet → Kept Params
-set_kept r = record { passed = check_answer r.result; kept = r.params }
 
 abbrev pub found_answer : FoundResult → Answer Found
 found_answer (FR.Ok f) = gives f

@@ -4,9 +4,10 @@
 
 ghost use Rattle.std.specs.Prelude.{◌≡◌, true, [], ◌++◌, suc, ◌+◌, ◌≤◌, ◌<◌, length, take, drop, get_or};
 ghost use Rattle.space_packet.specs.Answer.{check_answer, size_answer};
+ghost use Rattle.space_packet.specs.Wrote.{Wrote};
 ghost use Rattle.param_value.specs.Octets.{given_by};
-ghost use Rattle.params.specs.Parameters.{id_of, row_good, list_good, list_check, known, row_of};
-ghost use Rattle.params.specs.Request.{holding, with_pair, pushed, pairs_of, pair_from, pairs_from, pair_at, read_pair, read_pairs, all_read, read_in, ids_known, pair_octets, pairs_octets, request_octets, WroteRequest, length_of, kept_of, params_kept, set_kept, found_answer};
+ghost use Rattle.params.specs.Parameters.{row_good, list_good, list_check, row_of};
+ghost use Rattle.params.specs.Request.{holding, pushed, pairs_of, pair_at, read_pair, read_pairs, all_read, read_in, ids_known, pair_octets, pairs_octets, record_octets, write_in, length_of, kept_of, params_kept, found_answer};
 ghost use Rattle.params.specs.Places.{Used, HasRoom};
 
 use param_value::{PatternResult, Value, ValueResult};
@@ -19,18 +20,11 @@ pub struct Pair {
     pub value: Value,
 }
 
-// The pairs of a request: the first `count`, which is an octet, as in the request, and so never more than the places.
+// The pairs of a request: the first `count`. A count above 255 says that there were more.
 #[derive(Clone, Copy)]
 pub struct Params {
     pairs: [Pair; 255],
-    count: u8,
-}
-
-// Whether a pair was taken, and the record: as it was where it was not.
-#[derive(Clone, Copy)]
-pub struct ParamsSet {
-    pub params: Params,
-    pub result: CheckResult,
+    count: usize,
 }
 
 // What reading answers, and the pairs that it read: none where it was refused.
@@ -91,34 +85,19 @@ pub fn check_list(list: &[[u16; 3]]) -> CheckResult
     CheckResult::Ok
 }
 
-fn id_of(row: [u16; 3]) -> u64
-    ensures { result ≡ id_of row }
-{
-    row[0] as u64
-}
-
 // The row of a parameter; zeros, which name no type, where the list has none.
-fn row_of(list: &[[u16; 3]], id: u64) -> [u16; 3]
+fn row_of(list: &[[u16; 3]], id: u16) -> [u16; 3]
     ensures { result ≡ row_of list.now id }
 {
     let mut i: usize = 0;
     while i < list.len() {
         let row = list[i];
-        if id_of(row) == id {
+        if row[0] == id {
             return row;
         }
         i += 1;
     }
     [0, 0, 0]
-}
-
-// Whether a good list has a parameter. The types of its rows are named, and that of the row of zeros is not.
-fn is_known(list: &[[u16; 3]], id: u64) -> bool
-    requires { list_good list.now ≡ true }
-    ensures { result ≡ known list.now id }
-{
-    let row = row_of(list, id);
-    param_value::octets_for(row[1], row[2]) != 0
 }
 
 // ---- reading
@@ -141,7 +120,7 @@ fn read_pair(list: &[[u16; 3]], data: &[u8], at: usize) -> FoundResult
         return FoundResult::Err(ended_early(data, at + 2));
     }
     let id = space_packet::word_at(data, at);
-    let row = row_of(list, id as u64);
+    let row = row_of(list, id);
     let octets = param_value::octets_for(row[1], row[2]);
     if octets == 0 {
         return FoundResult::Err(PusError::UnknownParameter);
@@ -158,7 +137,7 @@ fn read_pair(list: &[[u16; 3]], data: &[u8], at: usize) -> FoundResult
 }
 
 fn refused(e: PusError) -> ParamsRead
-    ensures* { λ r. ⌜ r ≡ record { params = holding []; result = CheckResult.Err e } ⌝ }
+    ensures { result ≡ record { params = holding []; result = CheckResult.Err e } }
 {
     ParamsRead {
         params: Params::new(),
@@ -171,8 +150,7 @@ fn read_pairs(list: &[[u16; 3]], data: &[u8]) -> ParamsRead
     requires { (list_good list.now ≡ true) × (1 ≤ length «data».now) }
     ensures { params_kept result ≡ kept_of (all_read «data».now (read_pairs list.now «data».now (get_or «data».now 0 0) 1)) }
 {
-    let count = data[0];
-    let n = count as usize;
+    let count = data[0] as usize;
     let blank = Pair {
         id: 0,
         value: Value::Unsigned(0),
@@ -180,7 +158,7 @@ fn read_pairs(list: &[[u16; 3]], data: &[u8]) -> ParamsRead
     let mut pairs = [blank; 255];
     let mut at: usize = 1;
     let mut i: usize = 0;
-    while i < n {
+    while i < count {
         let read = read_pair(list, data, at);
         match read {
             FoundResult::Err(e) => {
@@ -218,34 +196,20 @@ impl Params {
         }
     }
 
-    // One pair more, in a place that is free.
-    fn with(self, pair: Pair) -> Params
-        requires { self.count < 255 }
-        ensures { result ≡ with_pair self pair }
+    // With one pair more. A 256th is not kept: the count then says that there were more than 255.
+    pub fn push(self, pair: Pair) -> Params
+        ensures { result ≡ pushed self pair }
     {
         let n = self.count;
         let mut pairs = self.pairs;
-        pairs[n as usize] = pair;
-        Params {
-            pairs,
-            count: n + 1,
-        }
-    }
-
-    // One pair more; 24, a 256th, and the record is handed back as it was.
-    pub fn push(self, pair: Pair) -> ParamsSet
-        ensures { set_kept result ≡ pushed self pair }
-    {
-        if self.count < 255 {
-            return ParamsSet {
-                params: self.with(pair),
-                result: CheckResult::Ok,
+        if n < 255 {
+            pairs[n] = pair;
+            return Params {
+                pairs,
+                count: n + 1,
             };
         }
-        ParamsSet {
-            params: self,
-            result: CheckResult::Err(PusError::ParameterValue),
-        }
+        Params { pairs, count: 256 }
     }
 
     // The pairs of a request, by its application data; 21; 2 or 22, the first met; 23.
@@ -262,18 +226,19 @@ impl Params {
         read_pairs(list, data)
     }
 
-    // The places in use.
+    // The places in use: never more than there are.
     fn used(self) -> usize
         ensures { Used self result }
     {
-        self.count as usize
+        let n = self.count;
+        if n < 255 { n } else { 255 }
     }
 
-    // How many pairs there are.
+    // How many pairs there are; 256 where there were more than 255.
     pub fn len(self) -> usize
-        ensures { result ≡ length (pairs_of self) }
+        ensures { result ≡ self.count }
     {
-        self.used()
+        self.count
     }
 
     // The i-th pair, from 0 on.
@@ -298,7 +263,8 @@ impl Params {
         let mut i: usize = 0;
         while i < n {
             let pair = pairs[i];
-            if !is_known(list, pair.id as u64) {
+            let row = row_of(list, pair.id);
+            if param_value::octets_for(row[1], row[2]) == 0 {
                 return false;
             }
             i += 1;
@@ -306,9 +272,9 @@ impl Params {
         true
     }
 
-    // How many octets the pairs have; 24. There are at most 255 pairs.
+    // The octets of the pairs; 24.
     fn pairs_len(self, list: &[[u16; 3]]) -> SizeResult
-        ensures { (size_answer result ≡ length_of (pairs_octets list.now (pairs_of self))) × (length (pairs_of self) ≤ 255) }
+        ensures { size_answer result ≡ length_of (pairs_octets list.now (pairs_of self)) }
     {
         let n = self.used();
         let pairs = self.pairs;
@@ -327,7 +293,7 @@ impl Params {
 
     // The octets of the request; 21, 22, 24.
     pub fn len_written(self, list: &[[u16; 3]]) -> SizeResult
-        ensures { size_answer result ≡ length_of (request_octets list.now (pairs_of self)) }
+        ensures { size_answer result ≡ length_of (record_octets list.now self) }
     {
         let check = check_list(list);
         if let CheckResult::Err(e) = check {
@@ -335,6 +301,9 @@ impl Params {
         }
         if !self.ids_known(list) {
             return SizeResult::Err(PusError::UnknownParameter);
+        }
+        if 255 < self.count {
+            return SizeResult::Err(PusError::ParameterValue);
         }
         let len = self.pairs_len(list);
         let SizeResult::Ok(octets) = len else {
@@ -360,7 +329,7 @@ impl Params {
 
     // Writes the application data of the request over the first octets of a buffer; 21, 22, 24, 1.
     pub fn write_to_slice(self, list: &[[u16; 3]], buf: &mut [u8]) -> SizeResult
-        ensures { WroteRequest list.now (pairs_of self) buf.old result buf.new }
+        ensures { Wrote (write_in list.now self (length buf.old)) (given_by (record_octets list.now self)) buf.old result buf.new }
     {
         let len = self.len_written(list);
         let SizeResult::Ok(total) = len else {
@@ -374,7 +343,7 @@ impl Params {
                 },
             ));
         }
-        buf[0] = self.len() as u8;
+        buf[0] = self.count as u8;
         self.put_pairs(list, buf);
         SizeResult::Ok(total)
     }
@@ -384,7 +353,7 @@ impl Params {
 fn pair_len(list: &[[u16; 3]], pair: Pair) -> SizeResult
     ensures { size_answer result ≡ length_of (pair_octets list.now pair) }
 {
-    let row = row_of(list, pair.id as u64);
+    let row = row_of(list, pair.id);
     let value = pair.value;
     let pattern = param_value::pattern_of(row[1], row[2], value);
     match pattern {
@@ -398,72 +367,10 @@ fn put_pair(list: &[[u16; 3]], pair: Pair, part: &mut [u8]) -> usize
     requires { HasRoom (pair_octets list.now pair) 0 (length part.old) }
     ensures { (result ≡ length (given_by (pair_octets list.now pair))) × (part.new ≡ given_by (pair_octets list.now pair) ++ drop (length (given_by (pair_octets list.now pair))) part.old) }
 {
-    let row = row_of(list, pair.id as u64);
+    let row = row_of(list, pair.id);
     part[0] = (pair.id / 256) as u8;
     part[1] = (pair.id % 256) as u8;
     let value = pair.value;
     param_value::write_value(row[1], row[2], value, &mut part[2..]);
     2 + param_value::octets_for(row[1], row[2])
-}
-
-// ---- pairs from rows of numbers: an ID, the number of a kind as of param_value::value_from, and bits
-
-// Whether the list has the parameter of each row.
-fn rows_known(list: &[[u16; 3]], rows: &[[u64; 3]]) -> bool
-    requires { list_good list.now ≡ true }
-    ensures { result ≡ ids_known list.now (pairs_from rows.now) }
-{
-    let mut i: usize = 0;
-    while i < rows.len() {
-        let row = rows[i];
-        if !is_known(list, row[0]) {
-            return false;
-        }
-        i += 1;
-    }
-    true
-}
-
-// The pair of a row whose parameter the list has: its ID is of 16 bits, as the list has it.
-fn pair_from(list: &[[u16; 3]], row: [u64; 3]) -> Pair
-    requires { known list.now (get_or row 0 0) ≡ true }
-    ensures { result ≡ pair_from row }
-{
-    let found = row_of(list, row[0]);
-    let value = param_value::value_from(row[1], row[2]);
-    Pair {
-        id: found[0],
-        value,
-    }
-}
-
-// The record of rows, at most 255, whose parameters the list has.
-fn params_from(list: &[[u16; 3]], rows: &[[u64; 3]]) -> Params
-    requires { (ids_known list.now (pairs_from rows.now) ≡ true) × (length rows.now ≤ 255) }
-    ensures { result ≡ holding (pairs_from rows.now) }
-{
-    let mut params = Params::new();
-    let mut i: usize = 0;
-    while i < rows.len() {
-        params = params.with(pair_from(list, rows[i]));
-        i += 1;
-    }
-    params
-}
-
-// Writes the application data of the request of these pairs over the first octets of a buffer, however many they are; 21, 22, 24, 1.
-pub fn write_rows(list: &[[u16; 3]], rows: &[[u64; 3]], buf: &mut [u8]) -> SizeResult
-    ensures { WroteRequest list.now (pairs_from rows.now) buf.old result buf.new }
-{
-    let check = check_list(list);
-    if let CheckResult::Err(e) = check {
-        return SizeResult::Err(e);
-    }
-    if !rows_known(list, rows) {
-        return SizeResult::Err(PusError::UnknownParameter);
-    }
-    if 255 < rows.len() {
-        return SizeResult::Err(PusError::ParameterValue);
-    }
-    params_from(list, rows).write_to_slice(list, buf)
 }

@@ -1,64 +1,46 @@
--- What the calls on a record of pairs leave: one pair more, octets that are read as those pairs, and by the pairs that were read the octets
--- as they stood.
+-- What the calls on a record of pairs leave: octets that are read as those pairs, and by the pairs that were read the octets as they stood.
 use Prim.Native.Nat.{ℕ, ◌≤◌}
-use mathlib.Core.Path.{◌≡◌, refl, sym, ap, ◌∙◌, subst}
-use mathlib.Core.Bool.{Bool, true, false}
-use mathlib.Core.List.{List, [], ◌++◌}
+use mathlib.Core.Path.{◌≡◌, refl, sym, ap, ◌∙◌}
+use mathlib.Core.List.{List, ◌++◌}
 use native.Mathlib.Omega.{arith}
 use lib.ListN.{length, take, drop}
-use lib.Seq.{take_all, take_at}
-use lib.Dec.{ltb}
-use borrow.Author.Tests.{ltb-true, ltb-false}
-use Rattle.space_packet.specs.Answer.{Answer, Kept, gives, refuses, refusal, numbers_of, check_answer, size_answer}
+use lib.Seq.{length-take-le, take_at}
+use Rattle.space_packet.specs.Answer.{Answer, Kept, gives, numbers_of, check_answer, size_answer}
+use Rattle.space_packet.specs.Wrote.{Wrote}
 use Rattle.space_packet.specs.declared.PusError.{PusError}
 use Rattle.space_packet.specs.declared.SizeResult.{SizeResult}
 use Rattle.space_packet.specs.declared.SizeResult.TheVariants as S
-use Rattle.space_packet.proofs.Answers.{gives-inj, refuses-inj, never, gives_then, left-written, has_room}
+use Rattle.space_packet.proofs.Answers.{gives-inj, never, gives_then, left-written, has_room}
 use Rattle.ecss.specs.Frame.{Octets}
-use Rattle.tc_write.specs.declared.PusTcCreator.{PusTcCreator}
 use Rattle.param_value.specs.Octets.{size_in, given_by}
 use Rattle.params.specs.Parameters.{Row}
-use Rattle.params.specs.Request.{pairs_of, with_pair, pushed, read_request, kept_of, request_octets, write_in, WroteRequest, params_kept, set_kept}
+use Rattle.params.specs.Request.{holding, pairs_of, read_request, kept_of, request_octets, record_octets, write_in, params_kept}
 use Rattle.params.specs.declared.Pair.{Pair}
 use Rattle.params.specs.declared.Params.{Params}
 use Rattle.params.specs.declared.ParamsRead.{ParamsRead}
-use Rattle.params.specs.declared.ParamsSet.{ParamsSet}
-use Rattle.params.proofs.Rows.{with-appends, taken_is, refused-is}
-use Rattle.params_exact.specs.Requests.{OneMore}
-use Rattle.params_exact.specs.Command.{Sendable, Arrives}
-use Rattle.params_exact.specs.declared.Told.{Told}
+use Rattle.params.proofs.WriteLaws.{request-is}
+use Rattle.params_exact.specs.Requests.{request_for}
 use Rattle.params_exact.proofs.Inverse.{written_read}
-use Rattle.params_exact.proofs.Whole.{read_told}
+use Rattle.params_exact.proofs.Whole.{pairs-held, read_told}
 
--- ---- one pair more
+-- a record's octets are those of its pairs: what is written has no more pairs than places
+pub request-held : (l : List Row) (p : Params) (o : List ℕ) → length p.pairs ≡ 255 → record_octets l p ≡ gives o → request_for l (pairs_of p) ≡ gives o
+request-held l p o n e =
+    let f = (request-is l p.count (pairs_of p) o e).few in
+    ap (λ (k : ℕ). request_octets l k (pairs_of p)) (length-take-le p.count p.pairs (omega (arith, f, n))) ∙ e
 
-pub one_more : (p : Params) (x : Pair) (r : ParamsSet) → length p.pairs ≡ 255 → set_kept r ≡ pushed p x → OneMore p x r
-one_more p x r n e = by_place (ltb p.count 255) refl
-  where
-    by_place : (b : Bool) → ltb p.count 255 ≡ b → OneMore p x r
-    by_place true t =
-        let h = ltb-true p.count 255 t in
-        let k : set_kept r ≡ record { passed = gives tt; kept = with_pair p x } = e ∙ sym (taken_is p (with_pair p x) x refl h) in
-        record {
-          taken = λ q. ap (λ (z : Kept Params). pairs_of z.kept) k ∙ with-appends p x n h;
-          refused = λ m q. absurd (never tt m (sym q ∙ ap (λ (z : Kept Params). z.passed) k));
-        }
-    by_place false t =
-        let h = ltb-false p.count 255 t in
-        let k : set_kept r ≡ record { passed = refuses (refusal 24 []); kept = p } = e ∙ sym (refused-is p x h) in
-        record {
-          taken = λ q. absurd (never tt _ (sym (ap (λ (z : Kept Params). z.passed) k) ∙ q));
-          refused = λ m q. (
-            refuses-inj m (refusal 24 []) (sym q ∙ ap (λ (z : Kept Params). z.passed) k),
-            ap length (take_all p.count p.pairs (omega (arith, n, h))) ∙ n,
-            ap (λ (z : Kept Params). z.kept) k,
-          );
-        }
+pub holding-request : (l : List Row) (ps : List Pair) → record_octets l (holding ps) ≡ request_for l ps
+unfolding holding
+holding-request l ps = ap (request_octets l (length ps)) (pairs-held ps)
+
+kept-is : (ps : List Pair) → (kept_of (gives ps)).kept ≡ holding ps
+unfolding kept_of
+kept-is ps = refl
 
 -- ---- a write with room
 
-module _ (l : List Row) (ps : List Pair) (o before after : List ℕ) (r : SizeResult) (e : request_octets l ps ≡ gives o) (h : length o ≤ length before) (w : WroteRequest l ps before r after) where
-  answers : write_in l ps (length before) ≡ gives (length o)
+module _ (l : List Row) (p : Params) (o before after : List ℕ) (r : SizeResult) (e : record_octets l p ≡ gives o) (h : length o ≤ length before) (w : Wrote (write_in l p (length before)) (given_by (record_octets l p)) before r after) where
+  answers : write_in l p (length before) ≡ gives (length o)
   unfolding size_in
   answers = gives_then _ _ o e ∙ has_room (length before) (length o) (length o) refl h
 
@@ -68,7 +50,7 @@ module _ (l : List Row) (ps : List Pair) (o before after : List ℕ) (r : SizeRe
   pub request-left : after ≡ o ++ drop (length o) before
   request-left =
       w.left
-      ∙ left-written _ (given_by (request_octets l ps)) before (length o) answers
+      ∙ left-written _ (given_by (record_octets l p)) before (length o) answers
       ∙ ap (λ (a : Answer (List ℕ)). given_by a ++ drop (length o) before) e
 
   pub front-is : (n : ℕ) → r ≡ S.Ok n → take n after ≡ o
@@ -82,15 +64,11 @@ module _ (l : List Row) (ps : List Pair) (o before after : List ℕ) (r : SizeRe
 
 -- by the record that reading hands back
 pub record-written : (l : List Row) (d before after : List ℕ) (r : SizeResult) (k : ParamsRead) → Octets d → params_kept k ≡ kept_of (read_request l d) → check_answer k.result ≡ gives tt
-    → length d ≤ length before → WroteRequest l (pairs_of k.params) before r after
+    → length d ≤ length before → Wrote (write_in l k.params (length before)) (given_by (record_octets l k.params)) before r after
     → (size_answer r ≡ gives (length d)) × (after ≡ d ++ drop (length d) before)
 record-written l d before after r k o e t h w =
+    let a = read_told l d k e t in
     let ps = pairs_of k.params in
-    let q : request_octets l ps ≡ gives d = written_read l ps d o (read_told l d k e t) in
-    (request-answered l ps d before after r q h w, request-left l ps d before after r q h w)
-
--- what is carried is what was written
-pub carried-as : (t : PusTcCreator) (l : List Row) (ps : List Pair) (x o before : List ℕ) (r : Told) (after : List ℕ) → x ≡ o
-    → (request_octets l ps ≡ gives x → Sendable t x before → Arrives t x before ps r after) → request_octets l ps ≡ gives o → Sendable t o before → Arrives t o before ps r after
-carried-as t l ps x o before r after e =
-    subst (λ (y : List ℕ). (request_octets l ps ≡ gives y → Sendable t y before → Arrives t y before ps r after)) e
+    let i : k.params ≡ holding ps = ap (λ (z : Kept Params). z.kept) e ∙ ap (λ (z : Answer (List Pair)). (kept_of z).kept) a ∙ kept-is ps in
+    let q : record_octets l k.params ≡ gives d = ap (record_octets l) i ∙ holding-request l ps ∙ written_read l ps d o a in
+    (request-answered l k.params d before after r q h w, request-left l k.params d before after r q h w)

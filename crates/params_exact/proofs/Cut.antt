@@ -8,21 +8,21 @@ use lib.ListN.{length, take, drop, get_or, length-drop, take-append-drop}
 use lib.Seq.{length-take-le, get_or-take, drop-append-le, take-append-le}
 use lib.Dec.{ltb}
 use borrow.Author.Tests.{le-ltb, lt-ltb, ltb-true, ltb-false}
-use Rattle.space_packet.specs.Bits.{pick, word}
+use Rattle.space_packet.specs.Bits.{word}
 use Rattle.space_packet.specs.Answer.{Answer, gives, refuses, refusal}
 use Rattle.space_packet.proofs.Answers.{gives-inj, refuse-no, refuse-yes, gives_then, refuses-then, then-gives}
 use Rattle.param_value.specs.Octets.{number_of}
 use Rattle.param_value.specs.Values.{value_of}
 use Rattle.params.specs.Parameters.{Row, ptc_of, pfc_of, known, row_of}
-use Rattle.params.specs.Request.{octets_in, found_at, read_pair, Pairs, read_pairs, all_read, read_request, request_octets}
+use Rattle.params.specs.Request.{octets_in, found_at, read_pair, Pairs, read_pairs, all_read, read_request}
 use Rattle.params.specs.declared.Pair.{Pair}
 use Rattle.params.proofs.ReadLaws.{id-short, pair_is, read-empty, read_all}
-use Rattle.params_exact.specs.Requests.{HeldAll, end_in, end_from, end_over}
+use Rattle.params_exact.specs.Requests.{request_for, HeldAll}
 use Rattle.params_exact.proofs.Inverse.{behind-request}
 
--- refused with 2, found j octets, expected e
-abbrev Ended : {A : Type 0} → ℕ → ℕ → Answer A → Type 0
-Ended j e a = a ≡ refuses (refusal 2 (j ∷ e ∷ []))
+-- refused with 2, found j octets
+abbrev Ended : {A : Type 0} → ℕ → Answer A → Type 0
+Ended j a = (e : ℕ) × (a ≡ refuses (refusal 2 (j ∷ e ∷ [])))
 
 module _ (l : List Row) (d : List ℕ) (j : ℕ) (fits : j ≤ length d) where
   abbrev cut : List ℕ
@@ -55,33 +55,30 @@ module _ (l : List Row) (d : List ℕ) (j : ℕ) (fits : j ≤ length d) where
       ∙ ap (λ (i : ℕ). gives (record { pair = record { id = i; value = value_of (ptc_of (row_of l i)) (pfc_of (row_of l i)) (number_of (take (octets_in l i) (drop (at + 2) cut))) }; end = at + 2 + octets_in l i })) w
       ∙ ap (λ (x : List ℕ). gives (record { pair = record { id = word d at; value = value_of (ptc_of (row_of l (word d at))) (pfc_of (row_of l (word d at))) (number_of x) }; end = at + 2 + octets_in l (word d at) })) (cut-part (at + 2) (octets_in l (word d at)) v)
 
-  -- the end that is told, by the tests of where j is
-  told-end : (at k : ℕ) (id : ℕ) (a b : Bool) → ltb j (at + 2) ≡ a → ltb j (at + 2 + octets_in l id) ≡ b
-      → pick a (at + 2) (pick b (at + 2 + octets_in l id) k) ≡ end_in l id at j k
-  told-end at k id a b p q = ap₂ (λ (x y : Bool). pick x (at + 2) (pick y (at + 2 + octets_in l id) k)) (sym p) (sym q)
-
   -- and one that is not ends early
-  cut-pair : (at k : ℕ) → known l (word d at) ≡ true → j < at + 2 + octets_in l (word d at) → Ended j (end_in l (word d at) at j k) (read_pair l cut at)
+  cut-pair : (at : ℕ) → known l (word d at) ≡ true → j < at + 2 + octets_in l (word d at) → Ended j (read_pair l cut at)
   unfolding read_pair
-  cut-pair at k i v = by-id (ltb j (at + 2)) refl
+  cut-pair at k v = by-id (ltb j (at + 2)) refl
     where
-      by-id : (b : Bool) → ltb j (at + 2) ≡ b → Ended j (end_in l (word d at) at j k) (read_pair l cut at)
+      by-id : (b : Bool) → ltb j (at + 2) ≡ b → Ended j (read_pair l cut at)
       by-id true t =
           let c = cut-length in
           let h = ltb-true j (at + 2) t in
-          id-short l cut at (omega (arith, c, h)) ∙ ap₂ (λ (n e : ℕ). refuses (refusal 2 (n ∷ e ∷ []))) c (told-end at k (word d at) true _ t refl)
+          (at + 2, id-short l cut at (omega (arith, c, h)) ∙ ap (λ (n : ℕ). refuses (refusal 2 (n ∷ (at + 2) ∷ []))) c)
       by-id false t =
           let c = cut-length in
           let h = ltb-false j (at + 2) t in
           let w = cut_word at h in
-          let o : octets_in l (word cut at) ≡ octets_in l (word d at) = ap (octets_in l) w in
-          refuse-no _ _ _ (le-ltb (length cut) (at + 2) (omega (arith, c, h)))
-          ∙ refuse-no _ _ _ (ap (λ (x : ℕ). not (known l x)) w ∙ ap not i)
-          ∙ refuse-yes _ _ _ (lt-ltb (length cut) (at + 2 + octets_in l (word cut at)) (omega (arith, c, o, v)))
-          ∙ ap₂ (λ (n e : ℕ). refuses (refusal 2 (n ∷ e ∷ []))) c (ap (λ (x : ℕ). at + 2 + x) o ∙ told-end at k (word d at) false true t (lt-ltb j (at + 2 + octets_in l (word d at)) v))
+          let o : octets_in l (word cut at) ≡ octets_in l (word d at) = ap (octets_in l) w in (
+            at + 2 + octets_in l (word cut at),
+            refuse-no _ _ _ (le-ltb (length cut) (at + 2) (omega (arith, c, h)))
+                ∙ refuse-no _ _ _ (ap (λ (i : ℕ). not (known l i)) w ∙ ap not k)
+                ∙ refuse-yes _ _ _ (lt-ltb (length cut) (at + 2 + octets_in l (word cut at)) (omega (arith, c, o, v)))
+                ∙ ap (λ (n : ℕ). refuses (refusal 2 (n ∷ (at + 2 + octets_in l (word cut at)) ∷ []))) c,
+          )
 
-  cut-pairs : (n at : ℕ) (r : Pairs) → at ≤ j → read_pairs l d n at ≡ gives r → j < r.end → Ended j (end_from l r.pairs at j) (read_pairs l cut n at)
-  unfolding read_pairs end_from
+  cut-pairs : (n at : ℕ) (r : Pairs) → at ≤ j → read_pairs l d n at ≡ gives r → j < r.end → Ended j (read_pairs l cut n at)
+  unfolding read_pairs
   cut-pairs zero at r h e v = absurd (let z : at ≡ r.end = ap (λ (x : Pairs). x.end) (gives-inj _ r e) in omega (arith, z, h, v))
   cut-pairs (suc n) at r h e v =
       let t = then-gives (read_pair l d at) _ r e in
@@ -89,39 +86,34 @@ module _ (l : List Row) (d : List ℕ) (j : ℕ) (fits : j ≤ length d) where
       let p = pair_is l d at t.0 t.1 in
       let q : read_pairs l d n (found_at l d at).end ≡ gives u.0 = ap (λ x. read_pairs l d n x.end) p.is ∙ u.1 in
       let z : u.0.end ≡ r.end = ap (λ (x : Pairs). x.end) (gives-inj _ r u.2) in
-      let a : (found_at l d at).pair ∷ u.0.pairs ≡ r.pairs = ap (λ x. x.pair ∷ u.0.pairs) p.is ∙ ap (λ (x : Pairs). x.pairs) (gives-inj _ r u.2) in
-      subst (λ (x : List Pair). Ended j (end_from l x at j) (read_pairs l cut (suc n) at)) a
-      (by-pair (ltb j (found_at l d at).end) refl u.0.pairs p.known-id (λ i. cut-pairs n (found_at l d at).end u.0 i q (omega (arith, z, v))))
+      by-pair (ltb j (found_at l d at).end) refl p.known-id (λ i. cut-pairs n (found_at l d at).end u.0 i q (omega (arith, z, v)))
     where
-      by-pair : (b : Bool) → ltb j (found_at l d at).end ≡ b → (qs : List Pair) → known l (word d at) ≡ true
-          → ((found_at l d at).end ≤ j → Ended j (end_from l qs (found_at l d at).end j) (read_pairs l cut n (found_at l d at).end))
-          → Ended j (end_from l ((found_at l d at).pair ∷ qs) at j) (read_pairs l cut (suc n) at)
-      by-pair true b qs k f = refuses-then _ _ _ (cut-pair at (end_from l qs (found_at l d at).end j) k (ltb-true j _ b))
-      by-pair false b qs k f =
+      by-pair : (b : Bool) → ltb j (found_at l d at).end ≡ b → known l (word d at) ≡ true → ((found_at l d at).end ≤ j → Ended j (read_pairs l cut n (found_at l d at).end)) → Ended j (read_pairs l cut (suc n) at)
+      by-pair true b k f = let c = cut-pair at k (ltb-true j _ b) in (c.0, refuses-then _ _ _ c.1)
+      by-pair false b k f =
           let i = ltb-false j (found_at l d at).end b in
-          let h : at + 2 ≤ j = omega (arith, i) in
-          gives_then _ _ _ (same-pair at h k i) ∙ refuses-then _ _ _ (f i)
-          ∙ ap (λ (e : ℕ). refuses (refusal 2 (j ∷ e ∷ []))) (told-end at (end_from l qs (found_at l d at).end j) (word d at) false false (le-ltb j (at + 2) h) b)
+          let c = f i in
+          (c.0, gives_then _ _ _ (same-pair at (omega (arith, i)) k i) ∙ refuses-then _ _ _ c.1)
 
-pub shorter-ends : (l : List Row) (ps : List Pair) (o : List ℕ) (j : ℕ) → HeldAll ps → request_octets l ps ≡ gives o → j < length o
-    → read_request l (take j o) ≡ refuses (refusal 2 (j ∷ end_over l ps j ∷ []))
+pub shorter-ends : (l : List Row) (ps : List Pair) (o : List ℕ) (j : ℕ) → HeldAll ps → request_for l ps ≡ gives o → j < length o
+    → (e : ℕ) × (read_request l (take j o) ≡ refuses (refusal 2 (j ∷ e ∷ [])))
 unfolding all_read
 shorter-ends l ps o j w e h = by_count (ltb j 1) refl
   where
-    by_count : (b : Bool) → ltb j 1 ≡ b → read_request l (take j o) ≡ refuses (refusal 2 (j ∷ end_over l ps j ∷ []))
+    by_count : (b : Bool) → ltb j 1 ≡ b → (e : ℕ) × (read_request l (take j o) ≡ refuses (refusal 2 (j ∷ e ∷ [])))
     by_count true t =
         let c = length-take-le j o (omega (arith, h)) in
         let k = ltb-true j 1 t in
         let b = behind-request l ps o [] w e in
-        read-empty l (take j o) b.list-good (omega (arith, c, k))
-        ∙ ap₂ (λ (n : ℕ) (x : Bool). refuses (refusal 2 (n ∷ pick x 1 (end_from l ps 1 j) ∷ []))) c (sym t)
+        (1, read-empty l (take j o) b.list-good (omega (arith, c, k)) ∙ ap (λ (n : ℕ). refuses (refusal 2 (n ∷ 1 ∷ []))) c)
     by_count false t =
         let c = length-take-le j o (omega (arith, h)) in
         let k = ltb-false j 1 t in
         let b = behind-request l ps o [] w e in
         let n : o ++ [] ≡ o = append-nil o in
         let r = subst (λ (x : List ℕ). read_pairs l x (get_or x 0 0) 1 ≡ gives (record { pairs = ps; end = length o })) n b.read in
-        let q = cut-pairs l o j (omega (arith, h)) (get_or o 0 0) 1 _ k r h in
-        read_all l (take j o) b.list-good (omega (arith, c, k))
-        ∙ refuses-then _ _ _ (ap (λ (i : ℕ). read_pairs l (take j o) i 1) (get_or-take j o 0 0 (omega (arith, k))) ∙ q)
-        ∙ ap (λ (x : Bool). refuses (refusal 2 (j ∷ pick x 1 (end_from l ps 1 j) ∷ []))) (sym t)
+        let q = cut-pairs l o j (omega (arith, h)) (get_or o 0 0) 1 _ k r h in (
+          q.0,
+          read_all l (take j o) b.list-good (omega (arith, c, k))
+              ∙ refuses-then _ _ _ (ap (λ (i : ℕ). read_pairs l (take j o) i 1) (get_or-take j o 0 0 (omega (arith, k))) ∙ q.1),
+        )

@@ -1,5 +1,5 @@
 -- Reading and writing a request invert each other, from the law for one value.
-use Prim.Native.Nat.{ℕ, zero, suc, ◌+◌, ◌*◌, ◌/◌, ◌%◌, ◌≤◌}
+use Prim.Native.Nat.{ℕ, zero, suc, ◌+◌, ◌*◌, ◌/◌, ◌%◌, ◌≤◌, ◌<◌}
 use mathlib.Core.Path.{◌≡◌, refl, sym, ap, ap₂, ◌∙◌, subst}
 use mathlib.Core.Logic.{◌↔◌}
 use mathlib.Core.Bool.{true, false, ◌&&◌}
@@ -20,12 +20,12 @@ use Rattle.param_value.proofs.Types.{pattern-is}
 use Rattle.param_value.proofs.Calls.{read-gives, octets-are}
 use Rattle.param_value.proofs.RoundTrip.{read-write, write_read}
 use Rattle.params.specs.Parameters.{Row, ptc_of, pfc_of, list_good, list_check, known, row_of}
-use Rattle.params.specs.Request.{octets_in, found_at, read_pair, Pairs, read_pairs, all_read, read_request, ids_known, pair_octets, pairs_octets, request_octets}
+use Rattle.params.specs.Request.{octets_in, found_at, read_pair, Pairs, read_pairs, all_read, read_request, ids_known, pair_octets, pairs_octets}
 use Rattle.params.specs.declared.Pair.{Pair}
 use Rattle.params.proofs.Lists.{known_by, good-by}
 use Rattle.params.proofs.ReadLaws.{pair_read, pair_is, read_all}
 use Rattle.params.proofs.WriteLaws.{pair-octets-are, pair-length, request-pairs, request-is}
-use Rattle.params_exact.specs.Requests.{HeldAll}
+use Rattle.params_exact.specs.Requests.{request_for, HeldAll}
 
 -- ---- octets from a place on
 
@@ -104,9 +104,9 @@ pub record Behind (l : List Row) (ps : List Pair) (o rest : List ℕ) : Type 0 w
   pub list-good : list_check l ≡ gives tt
   pub read : read_pairs l (o ++ rest) (get_or (o ++ rest) 0 0) 1 ≡ gives (record { pairs = ps; end = length o })
 
-pub behind-request : (l : List Row) (ps : List Pair) (o rest : List ℕ) → HeldAll ps → request_octets l ps ≡ gives o → Behind l ps o rest
+pub behind-request : (l : List Row) (ps : List Pair) (o rest : List ℕ) → HeldAll ps → request_for l ps ≡ gives o → Behind l ps o rest
 behind-request l ps o rest w e =
-    let r = request-is l ps o e in
+    let r = request-is l (length ps) ps o e in
     let b = r.pairs in
     let d = (length ps ∷ b) ++ rest in
     let z : 1 + length b ≡ length (length ps ∷ b) = omega arith in
@@ -114,10 +114,10 @@ behind-request l ps o rest w e =
     pairs-back l ps b d rest 1 (good-by l r.list-good) (omega arith) refl w r.are ∙ ap (λ (i : ℕ). gives (record { pairs = ps; end = i })) z in
     record { list-good = r.list-good; read = subst (λ (x : List ℕ). read_pairs l (x ++ rest) (get_or (x ++ rest) 0 0) 1 ≡ gives (record { pairs = ps; end = length x })) r.is f }
 
-pub some-octet : (l : List Row) (ps : List Pair) (o : List ℕ) → request_octets l ps ≡ gives o → 1 ≤ length o
-some-octet l ps o e = let r = request-is l ps o e in let z = ap length r.is in omega (arith, z)
+pub some-octet : (l : List Row) (ps : List Pair) (o : List ℕ) → request_for l ps ≡ gives o → 1 ≤ length o
+some-octet l ps o e = let r = request-is l (length ps) ps o e in let z = ap length r.is in omega (arith, z)
 
-pub read-written : (l : List Row) (ps : List Pair) (o : List ℕ) → HeldAll ps → request_octets l ps ≡ gives o → read_request l o ≡ gives ps
+pub read-written : (l : List Row) (ps : List Pair) (o : List ℕ) → HeldAll ps → request_for l ps ≡ gives o → read_request l o ≡ gives ps
 unfolding all_read
 read-written l ps o w e =
     let b = behind-request l ps o [] w e in
@@ -126,7 +126,7 @@ read-written l ps o w e =
     read_all l o b.list-good (some-octet l ps o e) ∙ gives_then _ _ _ r ∙ refuse-no _ _ _ (le-ltb (length o) (length o) (omega arith))
 
 -- what is written is as long as reading takes: with octets behind it, these are left over
-pub longer-left-over : (l : List Row) (ps : List Pair) (o rest : List ℕ) (x : ℕ) → HeldAll ps → request_octets l ps ≡ gives o → read_request l (o ++ (x ∷ rest)) ≡ refuses (refusal 23 [])
+pub longer-left-over : (l : List Row) (ps : List Pair) (o rest : List ℕ) (x : ℕ) → HeldAll ps → request_for l ps ≡ gives o → read_request l (o ++ (x ∷ rest)) ≡ refuses (refusal 23 [])
 unfolding all_read
 longer-left-over l ps o rest x w e =
     let b = behind-request l ps o (x ∷ rest) w e in
@@ -188,7 +188,7 @@ as_read l d (suc n) at r g o h e =
       within = b.within;
     })
 
-pub written_read : (l : List Row) (ps : List Pair) (d : List ℕ) → Octets d → read_request l d ≡ gives ps → request_octets l ps ≡ gives d
+pub written_read : (l : List Row) (ps : List Pair) (d : List ℕ) → Octets d → read_request l d ≡ gives ps → request_for l ps ≡ gives d
 unfolding read_request all_read
 written_read l ps d o e =
     let t = then-gives (list_check l) _ ps e in
@@ -206,11 +206,11 @@ written_read l ps d o e =
     let k : n ≤ 255 = (let b = o 0 in omega (arith, b)) in
     let x : a.octets ≡ drop 1 d = sym (a.here ∙ ap (λ (j : ℕ). a.octets ++ drop j d) z ∙ ap (λ (y : List ℕ). a.octets ++ y) (drop-length d) ∙ append-nil a.octets) in
     let m : length r.pairs ≡ n = a.count in
-    let s : request_octets l r.pairs ≡ gives (length r.pairs ∷ a.octets) =
-    request-pairs l r.pairs t.1 a.ids (omega (arith, k, m)) ∙ gives_then _ _ a.octets a.are in
+    let s : request_for l r.pairs ≡ gives (length r.pairs ∷ a.octets) =
+    request-pairs l (length r.pairs) r.pairs t.1 a.ids (omega (arith, k, m)) ∙ gives_then _ _ a.octets a.are in
     let y : n ∷ drop 1 d ≡ d = sym (drop-cons d 0 0 h) in
-    ap (request_octets l) (sym p) ∙ s ∙ ap₂ (λ (j : ℕ) (q : List ℕ). gives (j ∷ q)) m x ∙ ap gives y
+    ap (request_for l) (sym p) ∙ s ∙ ap₂ (λ (j : ℕ) (q : List ℕ). gives (j ∷ q)) m x ∙ ap gives y
 
 -- both ways
-pub inverse : (l : List Row) (ps : List Pair) (d : List ℕ) → Octets d → HeldAll ps → (read_request l d ≡ gives ps) ↔ (request_octets l ps ≡ gives d)
+pub inverse : (l : List Row) (ps : List Pair) (d : List ℕ) → Octets d → HeldAll ps → (read_request l d ≡ gives ps) ↔ (request_for l ps ≡ gives d)
 inverse l ps d o w = (written_read l ps d o, read-written l ps d w)

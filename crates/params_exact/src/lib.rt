@@ -1,19 +1,19 @@
 // What is asked of the parameter commands, as theorems: specs/ has the words, proofs/Inverse.antt that reading and writing a request
 // invert each other, proofs/Whole.antt a command as a whole.
 //
-// Both are also proved here of the calls themselves: the functions below take one pair more, write a request and read it again, read one
-// and write it again, receive a command and send one. They are there for their contracts, and nothing calls them.
+// Both are also proved here of the calls themselves: the functions below write a request and read it again, read one and write it again,
+// receive a command and send one. They are there for their contracts, and nothing calls them.
 #![tactic(auto)]
 
 ghost use Rattle.std.specs.Prelude.{◌≡◌, List, ◌++◌, ℕ, ◌≤◌, length, drop};
 ghost use Rattle.space_packet.specs.Answer.{gives, check_answer, size_answer};
-ghost use Rattle.params.specs.Request.{pairs_of, read_in, request_octets, kept_of, params_kept};
+ghost use Rattle.params.specs.Request.{pairs_of, read_in, record_octets, kept_of, params_kept};
 ghost use Rattle.params.specs.declared.Pair.{Pair};
-ghost use Rattle.params_exact.specs.Requests.{HeldAll, OneMore, left_of};
+ghost use Rattle.params_exact.specs.Requests.{request_for, HeldAll};
 ghost use Rattle.params_exact.specs.Command.{Received, Sendable, Arrives};
 
 use ecss::frame;
-use params::{Pair, Params, ParamsRead, ParamsSet};
+use params::{Params, ParamsRead};
 use space_packet::SizeResult;
 use tc_header::TcForm;
 use tc_strict::Verdict;
@@ -26,7 +26,7 @@ struct Rewritten {
     written: SizeResult,
 }
 
-// The verdict on octets, and the pairs of the set request that they begin with.
+// The verdict on octets, and the pairs that their data are read as.
 #[derive(Clone, Copy)]
 struct Told {
     verdict: Verdict,
@@ -35,18 +35,10 @@ struct Told {
 
 // ---- a request
 
-// A pair that is taken is the last; where none is taken there are 255, and the record is as it was.
-fn one_more(params: Params, pair: Pair) -> ParamsSet
-    ensures { OneMore params pair result }
-{
-    params.push(pair)
-}
-
 // The pairs of a record, written, are read again as those pairs.
 fn again(params: Params, list: &[[u16; 3]], buf: &mut [u8]) -> ParamsRead
-    ensures { ((o : List ℕ) → request_octets list.now (pairs_of params) ≡ gives o → length o ≤ length buf.old
-        → params_kept result ≡ kept_of (gives (pairs_of params)))
-        × (buf.new ≡ left_of list.now (pairs_of params) buf.old) }
+    ensures { (o : List ℕ) → record_octets list.now params ≡ gives o → length o ≤ length buf.old
+        → params_kept result ≡ kept_of (gives (pairs_of params)) }
 {
     let written = params.write_to_slice(list, buf);
     match written {
@@ -69,25 +61,24 @@ fn copied(list: &[[u16; 3]], data: &[u8], buf: &mut [u8]) -> Rewritten
 
 // ---- a command
 
-// A command that is received tells its pairs, and nothing else tells any; one of another type is refused with 33.
+// A command that is received tells its pairs, and nothing else tells any.
 fn received(form: TcForm, list: &[[u16; 3]], octets: &[u8]) -> Told
     ensures { Received form list.now octets.now result }
 {
     let verdict = tc_strict::judge_in(form, octets);
-    let read = set_request::read_in(form, list, octets);
+    let read = Params::read(list, tc_read::app_data_in(form, octets, true));
     Told { verdict, read }
 }
 
-// The octets of pairs, as the data of a command: it is left in the buffer, the verdict accepts it, and it is read as those pairs, or refused
-// with 33 where it is of another type.
+// The octets of pairs, as the data of a command: the verdict accepts it, and it is read as those pairs.
 fn carried(creator: PusTcCreator, list: &[[u16; 3]], data: &[u8], buf: &mut [u8]) -> Told
-    ensures { (ps : List Pair) → HeldAll ps → request_octets list.now ps ≡ gives «data».now
-        → Sendable creator «data».now buf.old → Arrives creator «data».now buf.old ps result buf.new }
+    ensures { (ps : List Pair) → HeldAll ps → request_for list.now ps ≡ gives «data».now
+        → Sendable creator «data».now buf.old → Arrives creator «data».now ps result }
 {
     creator.write_to_slice(data, buf);
     let form = creator.form();
     let verdict = tc_strict::judge_in(form, buf);
-    let read = set_request::read_in(form, list, buf);
+    let read = Params::read(list, tc_read::app_data_in(form, buf, true));
     Told { verdict, read }
 }
 
@@ -99,9 +90,8 @@ fn sent(
     room: &mut [u8],
     buf: &mut [u8],
 ) -> Told
-    ensures { ((o : List ℕ) → request_octets list.now (pairs_of params) ≡ gives o → length o ≤ length room.old
-        → Sendable creator o buf.old → Arrives creator o buf.old (pairs_of params) result buf.new)
-        × (room.new ≡ left_of list.now (pairs_of params) room.old) }
+    ensures { (o : List ℕ) → record_octets list.now params ≡ gives o → length o ≤ length room.old
+        → Sendable creator o buf.old → Arrives creator o (pairs_of params) result }
 {
     let written = params.write_to_slice(list, room);
     match written {

@@ -9,7 +9,7 @@ pub mod items;
 pub mod show;
 
 use ecss::PusVersion;
-use space_packet::{CheckResult, PacketType, SequenceFlags};
+use space_packet::{PacketType, SequenceFlags};
 use text::Value;
 
 // ---- a line
@@ -186,14 +186,5 @@ impl Fin {
             1 => Fin::NoTable,
             _ => Fin::NoChecksum,
         }
-    }
-}
-
-// ---- outcomes
-
-pub fn is_ok(r: CheckResult) -> bool {
-    match r {
-        CheckResult::Err(_) => false,
-        CheckResult::Ok => true,
     }
 }

@@ -110,13 +110,6 @@ pub fn check(r: CheckResult) {
     }
 }
 
-// Both, with a space between.
-pub fn checks(first: CheckResult, second: CheckResult) {
-    check(first);
-    say(b" ");
-    check(second);
-}
-
 // How many, after some words, or the refusal.
 pub fn size(words: &[u8], r: SizeResult) {
     match r {

@@ -89,18 +89,25 @@ impl Kind {
         }
     }
 
-    // Whether it is asked in a form too. The others are of PUS C with no spare octets, or of no edition.
-    fn has_form(self) -> bool {
+    // Whether PUS A takes it.
+    fn in_a(self) -> bool {
         match self {
             Kind::Strict => true,
             Kind::Read => true,
             Kind::Create => true,
             Kind::Build => true,
+            _ => false,
+        }
+    }
+
+    // Whether PUS C with spare octets does.
+    fn in_c(self) -> bool {
+        match self {
             Kind::Split => true,
             Kind::CompareReaders => true,
             Kind::Reserve => true,
             Kind::CompareCreator => true,
-            _ => false,
+            _ => self.in_a(),
         }
     }
 }
@@ -112,18 +119,18 @@ pub fn reply(line: &[u8], a: &mut [u8], b: &mut [u8]) {
 
 // A request of PUS A with a source ID of so many bits.
 pub fn reply_in_a(source_width: u8, line: &[u8], a: &mut [u8], b: &mut [u8]) {
-    reply_in(TcForm::pus_a(source_width), line, a, b)
+    let kind = Kind::read(line);
+    if kind.in_a() {
+        return reply_to(kind, TcForm::pus_a(source_width), line, a, b);
+    }
+    show::bad()
 }
 
 // A request of PUS C with so many spare octets.
 pub fn reply_in_c(spare_len: u8, line: &[u8], a: &mut [u8], b: &mut [u8]) {
-    reply_in(TcForm::pus_c(spare_len), line, a, b)
-}
-
-fn reply_in(form: TcForm, line: &[u8], a: &mut [u8], b: &mut [u8]) {
     let kind = Kind::read(line);
-    if kind.has_form() {
-        return reply_to(kind, form, line, a, b);
+    if kind.in_c() {
+        return reply_to(kind, TcForm::pus_c(spare_len), line, a, b);
     }
     show::bad()
 }

@@ -34,10 +34,9 @@ fn verified(data: &[u8], crc16: u16) {
     ];
     show::list(b"", b' ', &flags);
     show::say(b" ");
-    show::checks(
-        ecss::verify_crc16_ccitt_false_from_raw_to_pus_error(data, crc16),
-        ecss::verify_crc16_ccitt_false_from_raw_to_pus_error_no_table(data, crc16),
-    );
+    show::check(ecss::verify_crc16_ccitt_false_from_raw_to_pus_error(data, crc16));
+    show::say(b" ");
+    show::check(ecss::verify_crc16_ccitt_false_from_raw_to_pus_error_no_table(data, crc16));
 }
 
 // ---- primary headers

@@ -1,5 +1,5 @@
 // The requests that read telecommands.
-use protocol_fields::{Mode, is_ok, show};
+use protocol_fields::{Mode, show};
 use space_packet::CheckResult;
 use tc_header::TcForm;
 use tc_read::{PusTcRecord, PusTcRecordResult};
@@ -80,13 +80,22 @@ fn compared(form: TcForm, mode: Mode, data: &[u8], other_mode: Mode, other: &[u8
             other_mode.has_checksum(),
         );
     }
-    show::checks(first, second);
+    show::check(first);
+    show::say(b" ");
+    show::check(second);
 }
 
 fn outcome(r: PusTcRecordResult) -> CheckResult {
     match r {
         PusTcRecordResult::Err(e) => CheckResult::Err(e),
         PusTcRecordResult::Ok(_) => CheckResult::Ok,
+    }
+}
+
+fn is_ok(c: CheckResult) -> bool {
+    match c {
+        CheckResult::Err(_) => false,
+        CheckResult::Ok => true,
     }
 }
 

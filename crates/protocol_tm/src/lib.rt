@@ -12,21 +12,17 @@ enum Kind {
     Read,
     Create,
     Reserve,
-    CompareReaders,
-    CompareCreator,
     Unknown,
 }
 
 impl Kind {
     fn read(line: &[u8]) -> Kind {
-        let k = protocol_fields::place(field(line, 0), b"strict read create reserve cmprr cmprc");
+        let k = protocol_fields::place(field(line, 0), b"strict read create reserve");
         match k {
             0 => Kind::Strict,
             1 => Kind::Read,
             2 => Kind::Create,
             3 => Kind::Reserve,
-            4 => Kind::CompareReaders,
-            5 => Kind::CompareCreator,
             _ => Kind::Unknown,
         }
     }
@@ -40,8 +36,6 @@ pub fn reply(time_len: u8, line: &[u8], a: &mut [u8], b: &mut [u8]) {
         Kind::Read => read::read(time_len, line, a),
         Kind::Create => write::create(time_len, line, a, b),
         Kind::Reserve => write::reserve(time_len, line, a, b),
-        Kind::CompareReaders => read::compare(time_len, line, a, b),
-        Kind::CompareCreator => write::compare(time_len, line, a, b),
         Kind::Unknown => show::bad(),
     }
 }

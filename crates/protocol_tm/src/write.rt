@@ -1,12 +1,10 @@
 // The requests that write telemetry.
-use crate::read;
 use ecss::CreatorConfig;
 use protocol_fields::headers::Sp;
 use protocol_fields::items::{Edit, SecEdit, TmEdit};
-use protocol_fields::{Fin, Mode, field, has, headers, items, octets, show};
+use protocol_fields::{Fin, field, has, headers, items, octets, show};
 use space_packet::{CheckResult, PusError, SizeResult, SpHeaderResult};
 use tm_header::PusTmSecondaryHeader;
-use tm_read::PusTmRecordResult;
 use tm_reserved::{PusTmCreatorWithReservedSourceData, ReservedResult};
 use tm_write::{PusTmCreator, PusTmCreatorResult, PusTmCreatorSet};
 
@@ -322,66 +320,5 @@ fn finish(w: PusTmCreatorWithReservedSourceData, fin: Fin, buf: &mut [u8]) -> Si
         Fin::Finalize => w.finalize(buf),
         Fin::NoTable => w.finalize_checksum_no_table(buf),
         Fin::NoChecksum => w.finalize_no_checksum(buf),
-    }
-}
-
-// ---- cmprc
-
-// cmprc MODE DATA SP TM TIME set has DATA EDITS
-pub(crate) fn compare(time_len: u8, line: &[u8], a: &mut [u8], b: &mut [u8]) {
-    let mut good = has(line, 10);
-    let mode = Mode::read(line, 1, &mut good);
-    let packet = octets(line, 2, b, &mut good);
-    // Behind MODE, so that the creator's fields stand where they do in `create`.
-    let rest = protocol_fields::behind(protocol_fields::behind(line));
-    compare_by(time_len, mode, packet, rest, a, good)
-}
-
-fn compare_by(
-    time_len: u8,
-    mode: Mode,
-    packet: &[u8],
-    line: &[u8],
-    room: &mut [u8],
-    good_before: bool,
-) {
-    let mut good = good_before;
-    let at = Lengths::read(line, room, &mut good);
-    items::edits(field(line, 7), true, &mut good);
-    let asked = Creation::read(line, &mut good);
-    if good {
-        return compared(time_len, mode, packet, asked, room, at, field(line, 7));
-    }
-    show::bad()
-}
-
-fn compared(
-    time_len: u8,
-    mode: Mode,
-    packet: &[u8],
-    asked: Creation,
-    room: &[u8],
-    at: Lengths,
-    edits: &[u8],
-) {
-    let r = read::read_as(time_len, mode, packet);
-    match r {
-        PusTmRecordResult::Err(e) => show::refusal(e),
-        PusTmRecordResult::Ok(_) => {
-            let time = time_of(room, at);
-            let data = data_of(room, at);
-            let made = creator(time_len, asked, time, data, edits);
-            flags(time_len, packet, mode.has_checksum(), made, time, data)
-        }
-    }
-}
-
-fn flags(time_len: u8, packet: &[u8], has: bool, r: PusTmCreatorResult, time: &[u8], data: &[u8]) {
-    match r {
-        PusTmCreatorResult::Err(e) => show::refusal(e),
-        PusTmCreatorResult::Ok(c) => {
-            let same = tm_compare::eq_creator(time_len, packet, has, c, time, data) as u64;
-            show::list(b"", b' ', &[same, same]);
-        }
     }
 }

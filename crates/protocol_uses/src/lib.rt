@@ -15,7 +15,6 @@ enum Kind {
     Best,
     Params,
     WriteParams,
-    SetRequest,
     Profile,
     ProfileBuild,
     Gaps,
@@ -26,17 +25,16 @@ impl Kind {
     fn read(line: &[u8]) -> Kind {
         let k = protocol_fields::place(
             field(line, 0),
-            b"track best params wparams setreq profile pbuild gaps",
+            b"track best params wparams profile pbuild gaps",
         );
         match k {
             0 => Kind::Track,
             1 => Kind::Best,
             2 => Kind::Params,
             3 => Kind::WriteParams,
-            4 => Kind::SetRequest,
-            5 => Kind::Profile,
-            6 => Kind::ProfileBuild,
-            7 => Kind::Gaps,
+            4 => Kind::Profile,
+            5 => Kind::ProfileBuild,
+            6 => Kind::Gaps,
             _ => Kind::Other,
         }
     }
@@ -57,8 +55,7 @@ fn reply_to(kind: Kind, line: &[u8], a: &mut [u8], b: &mut [u8]) {
         Kind::Best => two_stations::reply(line, a, b),
         Kind::ProfileBuild => tailored::build(line, a, b),
         Kind::Track => track::reply(line, a),
-        Kind::Params => parameters::read(line, false, a),
-        Kind::SetRequest => parameters::read(line, true, a),
+        Kind::Params => parameters::read(line, a),
         Kind::WriteParams => parameters::write(line, a),
         Kind::Profile => tailored::reply(line, a),
         Kind::Gaps => listing::reply(line, a),

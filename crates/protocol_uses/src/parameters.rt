@@ -1,38 +1,30 @@
 // The requests on parameter commands.
 use param_value::{Value, ValueResult};
-use params::{PairAt, Params, ParamsRead};
+use params::{Pair, PairAt, Params, ParamsRead};
 use protocol_fields::{field, has, headers, items, octets, show};
 use space_packet::CheckResult;
 
-// params LIST DATA and setreq LIST DATA, with a LIST of at most 256 rows; DATA of setreq is a packet.
-pub(crate) fn read(line: &[u8], packet: bool, room: &mut [u8]) {
+// params LIST DATA, with a LIST of at most 256 rows.
+pub(crate) fn read(line: &[u8], room: &mut [u8]) {
     let mut list = [[0u16; 3]; 256];
     let mut good = has(line, 3);
     let n = rows(field(line, 1), &mut list, &mut good);
     let data = octets(line, 2, room, &mut good);
     if good {
-        return read_by(first(&list, n), packet, data);
+        return told(Params::read(first(&list, n), data));
     }
     show::bad()
 }
 
-fn read_by(list: &[[u16; 3]], packet: bool, data: &[u8]) {
-    if packet {
-        return told(set_request::read(list, data));
-    }
-    told(Params::read(list, data))
-}
-
-// wparams LIST PAIRS BUF, with at most 512 PAIRS.
+// wparams LIST PAIRS BUF
 pub(crate) fn write(line: &[u8], room: &mut [u8]) {
     let mut list = [[0u16; 3]; 256];
-    let mut made = [[0u64; 3]; 512];
     let mut good = has(line, 4);
     let n = rows(field(line, 1), &mut list, &mut good);
-    let m = pairs(field(line, 2), &mut made, &mut good);
+    pairs(field(line, 2), &mut good);
     let buf = octets(line, 3, room, &mut good);
     if good {
-        return written(first(&list, n), first_pairs(&made, m), buf);
+        return written(first(&list, n), params_of(field(line, 2)), buf);
     }
     show::bad()
 }
@@ -73,66 +65,78 @@ fn first(list: &[[u16; 3]], rows: usize) -> &[[u16; 3]] {
 
 // ---- PAIRS
 
-// Puts the pairs at the start of made, as rows of an ID, a kind and bits, and answers how many.
-fn pairs(s: &[u8], made: &mut [[u64; 3]], good: &mut bool) -> usize {
+// Whether each item is a pair.
+fn pairs(s: &[u8], good: &mut bool) {
     let n = items::count(s);
-    if made.len() < n {
-        *good = false;
-    }
     let mut k = 0;
     while k < n && *good {
-        pair(items::item(s, k), made, k, good);
+        pair_of(items::item(s, k), good);
         k += 1;
     }
-    n
 }
 
-// ID= and a value, which is then the k-th of made.
-fn pair(item: &[u8], made: &mut [[u64; 3]], k: usize, good: &mut bool) {
+fn params_of(s: &[u8]) -> Params {
+    let n = items::count(s);
+    let mut params = Params::new();
+    let mut k = 0;
+    while k < n {
+        params = with(params, items::item(s, k));
+        k += 1;
+    }
+    params
+}
+
+fn with(params: Params, item: &[u8]) -> Params {
+    let mut good = true;
+    params.push(pair_of(item, &mut good))
+}
+
+// ID= and a value.
+fn pair_of(item: &[u8], good: &mut bool) -> Pair {
     if text::pieces(item, b'=') != 2 {
         *good = false;
     }
-    let id = protocol_fields::number16(text::piece(item, b'=', 0), good);
-    let said = text::piece(item, b'=', 1);
-    let kind = kind_of(said, good);
-    let bits = bits_of(kind, text::piece(said, b':', 1), good);
-    if k < made.len() {
-        made[k] = [id as u64, kind, bits];
+    Pair {
+        id: protocol_fields::number16(text::piece(item, b'=', 0), good),
+        value: value_of(text::piece(item, b'=', 1), good),
     }
 }
 
-fn first_pairs(made: &[[u64; 3]], pairs: usize) -> &[[u64; 3]] {
-    if pairs < made.len() {
-        return &made[0..pairs];
-    }
-    made
+// What a value is, by its letter.
+#[derive(Clone, Copy)]
+enum Sort {
+    Unsigned,
+    Signed,
+    Single,
+    Double,
 }
 
-// The number of a value's kind, by its letter.
-fn kind_of(said: &[u8], good: &mut bool) -> u64 {
+fn sort_of(said: &[u8], good: &mut bool) -> Sort {
     if text::pieces(said, b':') != 2 {
         *good = false;
     }
     let k = protocol_fields::among(text::piece(said, b':', 0), b"u s f d", good);
     match k {
-        0 => 1,
-        1 => 2,
-        2 => 3,
-        _ => 4,
+        0 => Sort::Unsigned,
+        1 => Sort::Signed,
+        2 => Sort::Single,
+        _ => Sort::Double,
     }
 }
 
 // u:N, s:N, f: and d: with their digits.
-fn bits_of(kind: u64, s: &[u8], good: &mut bool) -> u64 {
-    match kind {
-        1 => protocol_fields::number(s, u64::MAX, good),
-        2 => signed(s, good),
-        3 => pattern(14, 4, s, good),
-        _ => pattern(16, 8, s, good),
+fn value_of(said: &[u8], good: &mut bool) -> Value {
+    let sort = sort_of(said, good);
+    let s = text::piece(said, b':', 1);
+    match sort {
+        Sort::Unsigned => Value::Unsigned(protocol_fields::number(s, u64::MAX, good)),
+        Sort::Signed => Value::Signed(signed(s, good)),
+        Sort::Single => real(1, 4, s, good),
+        Sort::Double => real(2, 8, s, good),
     }
 }
 
-fn signed(s: &[u8], good: &mut bool) -> u64 {
+fn signed(s: &[u8], good: &mut bool) -> i64 {
     if s.len() > 0 && s[0] == b'-' {
         return below_zero(protocol_fields::number(
             text::part(s, 1, s.len()),
@@ -140,33 +144,30 @@ fn signed(s: &[u8], good: &mut bool) -> u64 {
             good,
         ));
     }
-    protocol_fields::number(s, 9223372036854775807, good)
+    (protocol_fields::number(s, 9223372036854775807, good) % 9223372036854775808) as i64
 }
 
-// The number with its sign changed, in two's complement: the complement of one less.
-fn below_zero(n: u64) -> u64 {
+// The number with its sign changed: the complement of one less.
+fn below_zero(n: u64) -> i64 {
     if n == 0 {
         return 0;
     }
-    18446744073709551615 - (n - 1)
+    !(((n - 1) % 9223372036854775808) as i64)
 }
 
-// The number of so many octets.
-fn pattern(pfc: u16, count: usize, s: &[u8], good: &mut bool) -> u64 {
+// A real of so many octets.
+fn real(pfc: u16, count: usize, s: &[u8], good: &mut bool) -> Value {
     let mut room = [0u8; 8];
     if protocol_fields::decoded(s, &mut room, good) != count {
         *good = false;
     }
-    unsigned(param_value::read_value(3, pfc, &room))
-}
-
-fn unsigned(r: ValueResult) -> u64 {
-    let ValueResult::Ok(value) = r else {
-        return 0;
-    };
-    match value {
-        Value::Unsigned(n) => n,
-        _ => 0,
+    let r = param_value::read_value(5, pfc, &room);
+    match r {
+        ValueResult::Ok(value) => value,
+        ValueResult::Err(_) => {
+            *good = false;
+            Value::Unsigned(0)
+        }
     }
 }
 
@@ -225,7 +226,7 @@ fn bits(words: &[u8], pfc: u16, count: usize, value: Value) {
     show::hex(text::part(&out, 0, count));
 }
 
-fn written(list: &[[u16; 3]], made: &[[u64; 3]], buf: &mut [u8]) {
-    let r = params::write_rows(list, made, buf);
+fn written(list: &[[u16; 3]], params: Params, buf: &mut [u8]) {
+    let r = params.write_to_slice(list, buf);
     show::written(r, buf)
 }

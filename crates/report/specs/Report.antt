@@ -8,7 +8,6 @@ use Rattle.tc_read.specs.declared.PusTcRecord.{PusTcRecord}
 use Rattle.tc_strict.specs.Split.{Piece, packet, tail, Next, end, piece, walk}
 use Rattle.tc_strict.specs.declared.split.Step.{Step}
 use Rattle.tc_strict.specs.declared.split.Step.TheVariants as S
-use Rattle.input.specs.Printing.{most_octets}
 
 -- two numbers, and a space between them
 unfoldable pub two_text : ℕ → ℕ → List ℕ
@@ -33,7 +32,7 @@ lines_of (p ∷ ps) = line_of p ++ lines_of ps
 -- the lines, and the capture's length at the end; of more than 65,536 octets, that they are too long
 unfoldable pub body_text : List ℕ → List ℕ
 body_text capture =
-    pick (ltb most_octets (length capture)) (ascii "too long\n")
+    pick (ltb 65536 (length capture)) (ascii "too long\n")
     (lines_of (walk capture) ++ ascii "end " ++ decimal (length capture) ++ ascii "\n")
 
 unfoldable pub report_text : List ℕ → List ℕ

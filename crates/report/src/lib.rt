@@ -6,7 +6,7 @@ ghost use Rattle.io.specs.Counts.{IsPrefixLen};
 ghost use Rattle.text.specs.Page.{page, laid};
 ghost use Rattle.tc_strict.specs.Verdict.{verdict_answer};
 ghost use Rattle.tc_strict.specs.Split.{step_answer, walk};
-ghost use Rattle.input.specs.Printing.{Rendered, read_octets};
+ghost use Rattle.input.specs.Printing.{Rendered};
 ghost use Rattle.report.specs.Report.{two_text, verdict_text, step_text, behind, lines_of, body_text, report_text, room};
 ghost use Rattle.report.specs.Program.{printed};
 
@@ -137,7 +137,7 @@ const ROOM: usize = 12 + 4 * 65536 + 13 + 10;
 
 // Puts what is printed of an input at the start of out, and answers how many characters it has.
 fn answer(input: Input, buf: &[u8], out: &mut [u8]) -> usize
-    requires { (length buf.now ≡ read_octets) × (room ≤ length out.old) }
+    requires { room ≤ length out.old }
     ensures prefix_len { IsPrefixLen result out.new }
     ensures out_after { take result out.new ≡ printed input buf.now }
 {

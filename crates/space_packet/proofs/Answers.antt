@@ -182,8 +182,7 @@ error_of n =
     (pick (eqb n.number 28) E.ProfileService
     (pick (eqb n.number 29) E.ProfileAcceptance
     (pick (eqb n.number 30) E.ProfileData
-    (pick (eqb n.number 31) E.TooManyApids
-    (pick (eqb n.number 32) E.SourceWidth E.NotASetRequest))))))))))))))))))))))))))))))
+    (pick (eqb n.number 31) E.TooManyApids E.SourceWidth)))))))))))))))))))))))))))))
 
 pub error-back : (e : PusError) → error_of (numbers_of e) ≡ e
 unfolding error_of
@@ -218,7 +217,6 @@ error-back E.ProfileAcceptance = refl
 error-back E.ProfileData = refl
 error-back E.TooManyApids = refl
 error-back E.SourceWidth = refl
-error-back E.NotASetRequest = refl
 
 pub numbers-inj : (e f : PusError) → numbers_of e ≡ numbers_of f → e ≡ f
 numbers-inj = by-inverse numbers_of error_of error-back
@@ -256,7 +254,6 @@ not_five E.ProfileAcceptance = refl
 not_five E.ProfileData = refl
 not_five E.TooManyApids = refl
 not_five E.SourceWidth = refl
-not_five E.NotASetRequest = refl
 
 pub no-five : (e : PusError) → (numbers_of e).number ≡ 5 → ⊥
 no-five e = eqb-false _ 5 (not_five e)

@@ -84,7 +84,6 @@ numbers_of E.ProfileAcceptance = refusal 29 []
 numbers_of E.ProfileData = refusal 30 []
 numbers_of E.TooManyApids = refusal 31 []
 numbers_of E.SourceWidth = refusal 32 []
-numbers_of E.NotASetRequest = refusal 33 []
 
 -- written out, with 0 for a value that it has not
 abbrev pub in_numbers : Numbers → RefusalNumbers

@@ -43,7 +43,7 @@ pub enum PusError {
     // 6, with the length of the application data
     PacketTooLong(usize),
     // 7: place 1 is the packet version number, 2 the APID, 3 the sequence count, 4 the acknowledgement flags, of telemetry the
-    // time reference status, 5 the source ID, 6, in a row of gaps, the count that was found
+    // time reference status, 5 the source ID
     FieldRange { place: u8, value: u16 },
     // 8
     Reservation,
@@ -95,8 +95,6 @@ pub enum PusError {
     TooManyApids,
     // 32: a source ID of another width than 0, 8 and 16 bits
     SourceWidth,
-    // 33: a command of another service or subtype than 20, 3
-    NotASetRequest,
 }
 
 // A refusal in numbers: its own, how many values it has, and these, with 0 for what it has not.
@@ -172,7 +170,6 @@ impl PusError {
             PusError::ProfileData => in_numbers(30, 0, 0, 0),
             PusError::TooManyApids => in_numbers(31, 0, 0, 0),
             PusError::SourceWidth => in_numbers(32, 0, 0, 0),
-            PusError::NotASetRequest => in_numbers(33, 0, 0, 0),
         }
     }
 

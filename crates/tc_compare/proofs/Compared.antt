@@ -14,7 +14,7 @@ use Rattle.tc_header.specs.declared.TcForm.{TcForm}
 use Rattle.tc_header.proofs.Same.{same-sec}
 use Rattle.tc_write.specs.declared.PusTcCreator.{PusTcCreator}
 use Rattle.tc_read.specs.Read.{read_in, app_data_in, raw_data_in}
-use Rattle.tc_compare.specs.Compare.{reports_creator, equals_creator_in, equals_readers}
+use Rattle.tc_compare.specs.Compare.{reports_creator, equals_creator_in, equals_reader_in}
 use Rattle.tc_read.specs.declared.PusTcRecord.{PusTcRecord}
 
 -- what was read compared with a creator, where both headers' comparisons are known
@@ -54,6 +54,6 @@ equals-creator f s b t d = (
 )
 
 -- two readers, by their raw octets
-pub equals-reader : (f : TcForm) (s : List ℕ) (b : Bool) (g : TcForm) (t : List ℕ) (c : Bool)
-    → (equals_readers f s b g t c ≡ true) ↔ ReadAlike (read_in f s b) (read_in g t c) (raw_data_in f s b) (raw_data_in g t c)
-equals-reader f s b g t c = same_read _ _ _ _
+pub equals-reader : (f : TcForm) (s : List ℕ) (b : Bool) (t : List ℕ) (c : Bool)
+    → (equals_reader_in f s b t c ≡ true) ↔ ReadAlike (read_in f s b) (read_in f t c) (raw_data_in f s b) (raw_data_in f t c)
+equals-reader f s b t c = same_read _ _ _ _

@@ -22,13 +22,9 @@ equals_creator_in f s b t d = reports_creator (read_in f s b) (app_data_in f s b
 abbrev pub equals_creator : List ℕ → Bool → PusTcCreator → List ℕ → Bool
 equals_creator = equals_creator_in form_c
 
--- two readers, each of its own form: by their raw octets only
-abbrev pub equals_readers : TcForm → List ℕ → Bool → TcForm → List ℕ → Bool → Bool
-equals_readers f s b g t c = same_reading (read_in f s b) (read_in g t c) (raw_data_in f s b) (raw_data_in g t c)
-
--- and of one form
+-- two readers: by their raw octets only
 abbrev pub equals_reader_in : TcForm → List ℕ → Bool → List ℕ → Bool → Bool
-equals_reader_in f s b t c = equals_readers f s b f t c
+equals_reader_in f s b t c = same_reading (read_in f s b) (read_in f t c) (raw_data_in f s b) (raw_data_in f t c)
 
 abbrev pub equals_reader : List ℕ → Bool → List ℕ → Bool → Bool
 equals_reader = equals_reader_in form_c

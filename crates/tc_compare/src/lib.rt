@@ -5,7 +5,7 @@
 ghost use Rattle.std.specs.Prelude.{◌≡◌};
 ghost use Rattle.ecss.specs.Frame.{was_read};
 ghost use Rattle.tc_read.specs.Read.{read_in};
-ghost use Rattle.tc_compare.specs.Compare.{equals_creator_in, equals_creator, equals_readers, equals_reader_in, equals_reader};
+ghost use Rattle.tc_compare.specs.Compare.{equals_creator_in, equals_creator, equals_reader_in, equals_reader};
 
 use ecss::frame;
 use tc_header::TcForm;
@@ -78,27 +78,13 @@ pub fn eq_reader_in(
 ) -> bool
     ensures { result ≡ equals_reader_in form slice.now has_checksum other.now other_has_checksum }
 {
-    eq_readers_in(form, slice, has_checksum, form, other, other_has_checksum)
-}
-
-// The same of two readers that have a form each.
-pub fn eq_readers_in(
-    form: TcForm,
-    slice: &[u8],
-    has_checksum: bool,
-    other_form: TcForm,
-    other: &[u8],
-    other_has_checksum: bool,
-) -> bool
-    ensures { result ≡ equals_readers form slice.now has_checksum other_form other.now other_has_checksum }
-{
     if !is_read(form, slice, has_checksum) {
         return false;
     }
-    if !is_read(other_form, other, other_has_checksum) {
+    if !is_read(form, other, other_has_checksum) {
         return false;
     }
     let raw = tc_read::raw_data_in(form, slice, has_checksum);
-    let other_raw = tc_read::raw_data_in(other_form, other, other_has_checksum);
+    let other_raw = tc_read::raw_data_in(form, other, other_has_checksum);
     frame::same_octets(raw, other_raw)
 }

@@ -8,7 +8,6 @@ ghost use Rattle.space_packet.specs.Answer.{refusal, gives, refuses, ◌then◌,
 ghost use Rattle.space_packet.specs.Part.{beyond};
 ghost use Rattle.space_packet.specs.Wrote.{Wrote};
 ghost use Rattle.space_packet.specs.declared.PacketType.TheVariants.{Tc};
-ghost use Rattle.ecss.specs.Frame.{part_after, at_after};
 ghost use Rattle.ecss.specs.Kind.{start_of, secondary_of, secondary_at, pus_rule, strict_rule};
 ghost use Rattle.ecss.specs.Version.{version_number};
 ghost use Rattle.ecss.specs.declared.PusVersion.TheVariants.{PusC};
@@ -154,16 +153,12 @@ impl TcForm {
         CCSDS_HEADER_LEN + self.sec_header_len()
     }
 
-    // The octets of the secondary header in a packet; fewer where the packet is shorter, and none for a form that is refused.
+    // The octets of the secondary header in a packet; fewer where the packet is shorter.
     pub fn sec_header_part(self, packet: &[u8]) -> &[u8]
-        ensures result_value { result.now ≡ part_after (form_check self) (secondary_of (tc self).size packet.now) }
-        ensures ref_ptr_value { result.ref_ptr ≡ beyond (at_after (form_check self) (secondary_at packet.now)) packet.entry.ref_ptr }
+        ensures result_value { result.now ≡ secondary_of (tc self).size packet.now }
+        ensures ref_ptr_value { result.ref_ptr ≡ beyond (secondary_at packet.now) packet.entry.ref_ptr }
     {
-        let form = self.check();
-        match form {
-            CheckResult::Err(_) => &packet[..0],
-            CheckResult::Ok => frame::sec_header_part(packet, self.sec_header_len()),
-        }
+        frame::sec_header_part(packet, self.sec_header_len())
     }
 
     // Whether the edition, the width and the spare length are the same.

@@ -11,13 +11,13 @@ use seplogic.Ra.Ura.{Ura}
 use mir.Syntax.{Name, Fn, Lifetime, Ty, imm, w8, ty_int, ty_ref, ty_bool}
 use mir.Val.{Val, WT, has_ty, vbool, vstruct, Vals, vnil, vcons}
 use mir.Fields.{set_v}
-use base.Logic.{SProp, ent, sep, emp, ex, id⊢, via, comm∗, emp∗, fst∗, snd∗, mono_l, mono_r}
+use base.Logic.{SProp, ent, sep, emp, ex, id⊢, via, comm∗, emp∗, fst∗}
 use base.Fml.{Share, Fml, fat}
 use prog.Model.{Model}
 use prog.Routine.{Env}
 use prog.Wp.{WpFn, Closed}
 use types.Logic.{Logic, sem}
-use contract.Monad.{fact, fact_i, fact_use}
+use contract.Monad.{fact}
 use contract.Lifetimes.{Lfts, Shares, AllOutlive}
 use contract.Running.{Running, tables, tables_of}
 use types.Kit.{Item, Goal, Seq, Soaks, nth, mean, ‵, raw, ◌⊛◌, some, later, given, ◌$◌, ◌∵◌, !, qed, move, drop, use1, split, pick, learn, frame, await, done}
@@ -43,8 +43,6 @@ use Rattle.space_packet.specs.contracts.SpacePacketHeader as P
 use Rattle.space_packet.proofs.SpacePacketHeader.TheLaws as P'
 use Rattle.tc_header.specs.contracts.PusTcSecondaryHeader as S
 use Rattle.tc_header.proofs.PusTcSecondaryHeader.TheLaws as S'
-use Rattle.tc_header.specs.contracts.TcForm as F
-use Rattle.tc_header.proofs.TcForm.TheLaws as F'
 use Rattle.tc_held.specs.declared.PusTcReader.{PusTcReader}
 use Rattle.tc_held.specs.contracts.PusTcReader as T
 use Rattle.tc_held.proofs.PusTcReader.TheLaws as T'
@@ -71,15 +69,8 @@ module _ (α : NamedLft) (d : PusTcReader) where
   abbrev pub Raw : Fml
   Raw = (ShrSlice α.mir α.lft u8).own_val d.raw (rawVal ∷ [])
 
-  -- the machine value of the form, which is one of a form
-  abbrev pub formVal : Val
-  formVal = LL.val F.the_type F'.the_laws d.form
-
-  pub form-is : Is (T.the_row α) d (mach ∷ []) → Is F.the_row d.form (formVal ∷ [])
-  form-is p = (LL.owed (T.the_type α) (T'.the_laws α) d _ p).1.1.1.1.0
-
   abbrev values : Values (T.the_type α).parts
-  values = (d.raw, (d.sp_header, (d.sec_header, (d.has_checksum, (d.form, tt)))))
+  values = (d.raw, (d.sp_header, (d.sec_header, (d.has_checksum, tt))))
 
   -- the reader is Copy: its octets are taken out of one copy, and the other is kept whole
   pub raw-out : {M : Type 1} {𝓤 : Ura M} (𝓛 : Logic 𝓤) → ent 𝓤 (sem 𝓛 Own) (sep 𝓤 (sem 𝓛 Raw) (sem 𝓛 Own))
@@ -92,12 +83,12 @@ module _ (α : NamedLft) (d : PusTcReader) where
 
   -- the machine values of the fields, and a cell of the struct's type
   abbrev held : Vals
-  held = vcons rawVal (vcons (LL.val P.the_type P'.the_laws d.sp_header) (vcons (LL.val S.the_type S'.the_laws d.sec_header) (vcons (vbool d.has_checksum) (vcons formVal vnil))))
+  held = vcons rawVal (vcons (LL.val P.the_type P'.the_laws d.sp_header) (vcons (LL.val S.the_type S'.the_laws d.sec_header) (vcons (vbool d.has_checksum) vnil)))
 
   abbrev cell : Share → ℕ → Val → Fml
   cell q b v = fat q (T'.mir α.mir) b 0 v
 
-  -- the three fields that the walks read, where the reader lies in entry n of the context
+  -- the two fields that the walks read, where the reader lies in entry n of the context
   module _ {M : Type 1} {𝓤 : Ura M} {𝓛 : Logic 𝓤} {K : Type 0} {Γ : List (Item 𝓤)} where
     pub raw_at : K → (n : ℕ) {q : Share} {b : ℕ} → nth 𝓛 n Γ ≡ ‵ (cell q b mach) → Reads K 𝓛 Γ (raw_ty α.mir) b 0 rawVal
     raw_at t n {q} {b} e = look_in t n (subst (λ (j : Item 𝓤). Part K 𝓛 j q (raw_ty α.mir) b 0 rawVal (λ u. ‵ (cell q b (vstruct (set_v held 0 u))))) (sym e) (sub t 0 {τ = raw_ty α.mir} {d = 0} refl (whole t)))
@@ -105,47 +96,20 @@ module _ (α : NamedLft) (d : PusTcReader) where
     pub choice-at : K → (n : ℕ) {q : Share} {b : ℕ} → nth 𝓛 n Γ ≡ ‵ (cell q b mach) → Reads K 𝓛 Γ ty_bool b 34 (vbool d.has_checksum)
     choice-at t n {q} {b} e = look_in t n (subst (λ (j : Item 𝓤). Part K 𝓛 j q ty_bool b 34 (vbool d.has_checksum) (λ u. ‵ (cell q b (vstruct (set_v held 3 u))))) (sym e) (sub t 3 {τ = ty_bool} {d = 34} refl (whole t)))
 
-    pub form-at : K → (n : ℕ) {q : Share} {b : ℕ} → nth 𝓛 n Γ ≡ ‵ (cell q b mach) → Reads K 𝓛 Γ F'.mir b 35 formVal
-    form-at t n {q} {b} e = look_in t n (subst (λ (j : Item 𝓤). Part K 𝓛 j q F'.mir b 35 formVal (λ u. ‵ (cell q b (vstruct (set_v held 4 u))))) (sym e) (sub t 4 {τ = F'.mir} {d = 35} refl (whole t)))
-
 -- ---- any walk
 
 -- what a callee without a `requires` asks is what its types own
 pub unasked : {M : Type 1} (𝓤 : Ura M) (P : SProp 𝓤) → ent 𝓤 P (sep 𝓤 P (emp 𝓤))
 unasked 𝓤 P = via 𝓤 (sep 𝓤 (emp 𝓤) P) (emp∗ 𝓤 P) (comm∗ 𝓤 (emp 𝓤) P)
 
--- two facts are one fact of both
-both-learned : {M : Type 1} (𝓤 : Ura M) (φ ψ : Type 0) → ent 𝓤 (sep 𝓤 (fact 𝓤 φ) (fact 𝓤 ψ)) (fact 𝓤 (φ × ψ))
-both-learned 𝓤 φ ψ =
-    let P = sep 𝓤 (fact 𝓤 φ) (fact 𝓤 ψ) in
-    fact_use 𝓤 φ (fst∗ 𝓤 (fact 𝓤 φ) (fact 𝓤 ψ)) (λ x. fact_use 𝓤 ψ (snd∗ 𝓤 (fact 𝓤 φ) (fact 𝓤 ψ)) (λ y. fact_i 𝓤 (φ × ψ) P (x, y)))
-
-pub both-said : {M : Type 1} (𝓤 : Ura M) (P : SProp 𝓤) (φ ψ : Type 0) → ent 𝓤 (sep 𝓤 P (fact 𝓤 (φ × ψ))) (sep 𝓤 P (sep 𝓤 (fact 𝓤 φ) (fact 𝓤 ψ)))
-both-said 𝓤 P φ ψ =
-    let F = fact 𝓤 (φ × ψ) in
-    mono_r 𝓤 P (fact_use 𝓤 (φ × ψ) (id⊢ 𝓤 F) (λ p. via 𝓤 (sep 𝓤 (emp 𝓤) F) (emp∗ 𝓤 F) (via 𝓤 (sep 𝓤 (fact 𝓤 φ) F) (mono_l 𝓤 F (fact_i 𝓤 φ (emp 𝓤) p.0)) (mono_r 𝓤 (fact 𝓤 φ) (fact_i 𝓤 ψ F p.1)))))
-
--- what a callee hands back: the tokens, a result of the type X, what is left of its parameters, and what its `ensures` says of the
--- result, from which φ of it is learned
-returned-by : {M : Type 1} {𝓤 : Ura M} {𝓛 : Logic 𝓤} {K : Type 0} {Γ : List (Item 𝓤)} {G : Goal 𝓤 𝓛.H} → K → (X : RattleType) (φ : X.Denot → Type 0)
-    → (said : X.Denot → SProp 𝓤) → ((r : X.Denot) → ent 𝓤 (said r) (fact 𝓤 (φ r))) → (tokens : Item 𝓤)
-    → {E : Type 0} (left : E → Fml) {u : Val} → Soaks G → ((r : X.Denot) → φ r → Is X r (u ∷ []) → Seq K 𝓛 (‵ (X.own_val r (u ∷ [])) ∷ tokens ∷ Γ) G)
-    → Seq K 𝓛 (raw (𝓛.H.⇛ (ex 𝓤 (λ (r : X.Denot). sep 𝓤 (sep 𝓤 (mean 𝓛 tokens) (sem 𝓛 (X.own_val r (u ∷ [])))) (ex 𝓤 (λ (e : E). sep 𝓤 (sem 𝓛 (left e)) (said r)))))) ∷ Γ) G
-returned-by {𝓤 = 𝓤} {𝓛 = 𝓛} t X φ said learned tokens {E} left {u} soaks k =
-    use1 𝓛 (later (some (λ (r : X.Denot). (tokens ⊛ ‵ (X.own_val r (u ∷ []))) ⊛ some (λ (e : E). ‵ (left e) ⊛ raw (said r))))) (id⊢ 𝓤 _) $ await t soaks $ pick t (λ r. split t $ split t $
-    move t (2 ∷ []) $ pick t (λ e. split t $ drop t $ use1 𝓛 (raw (fact 𝓤 (φ r))) (learned r) $ heard t (φ r) (λ x. move t (1 ∷ []) $ peeks t X (Is X) (shows 𝓛 X) r (u ∷ []) (λ is. k r x is))))
-
--- where one `ensures` says φ
+-- what a callee hands back: the tokens, a result of the type X, what is left of its parameters, and φ of the result, which its
+-- `ensures` says
 pub returned : {M : Type 1} {𝓤 : Ura M} {𝓛 : Logic 𝓤} {K : Type 0} {Γ : List (Item 𝓤)} {G : Goal 𝓤 𝓛.H} → K → (X : RattleType) (φ : X.Denot → Type 0) (tokens : Item 𝓤)
     → {E : Type 0} (left : E → Fml) {u : Val} → Soaks G → ((r : X.Denot) → φ r → Is X r (u ∷ []) → Seq K 𝓛 (‵ (X.own_val r (u ∷ [])) ∷ tokens ∷ Γ) G)
     → Seq K 𝓛 (raw (𝓛.H.⇛ (ex 𝓤 (λ (r : X.Denot). sep 𝓤 (sep 𝓤 (mean 𝓛 tokens) (sem 𝓛 (X.own_val r (u ∷ [])))) (ex 𝓤 (λ (e : E). sep 𝓤 (sem 𝓛 (left e)) (fact 𝓤 (φ r))))))) ∷ Γ) G
-returned {𝓤 = 𝓤} t X φ tokens left soaks k = returned-by t X φ (λ r. fact 𝓤 (φ r)) (λ r. id⊢ 𝓤 _) tokens left soaks k
-
--- where two say φ and ψ, as of a part its octets and its address
-pub returned-both : {M : Type 1} {𝓤 : Ura M} {𝓛 : Logic 𝓤} {K : Type 0} {Γ : List (Item 𝓤)} {G : Goal 𝓤 𝓛.H} → K → (X : RattleType) (φ ψ : X.Denot → Type 0) (tokens : Item 𝓤)
-    → {E : Type 0} (left : E → Fml) {u : Val} → Soaks G → ((r : X.Denot) → φ r × ψ r → Is X r (u ∷ []) → Seq K 𝓛 (‵ (X.own_val r (u ∷ [])) ∷ tokens ∷ Γ) G)
-    → Seq K 𝓛 (raw (𝓛.H.⇛ (ex 𝓤 (λ (r : X.Denot). sep 𝓤 (sep 𝓤 (mean 𝓛 tokens) (sem 𝓛 (X.own_val r (u ∷ [])))) (ex 𝓤 (λ (e : E). sep 𝓤 (sem 𝓛 (left e)) (sep 𝓤 (fact 𝓤 (φ r)) (fact 𝓤 (ψ r)))))))) ∷ Γ) G
-returned-both {𝓤 = 𝓤} t X φ ψ tokens left soaks k = returned-by t X (λ r. φ r × ψ r) (λ r. sep 𝓤 (fact 𝓤 (φ r)) (fact 𝓤 (ψ r))) (λ r. both-learned 𝓤 (φ r) (ψ r)) tokens left soaks k
+returned {𝓤 = 𝓤} {𝓛 = 𝓛} t X φ tokens {E} left {u} soaks k =
+    use1 𝓛 (later (some (λ (r : X.Denot). (tokens ⊛ ‵ (X.own_val r (u ∷ []))) ⊛ some (λ (e : E). ‵ (left e) ⊛ raw (fact 𝓤 (φ r)))))) (id⊢ 𝓤 _) $ await t soaks $ pick t (λ r. split t $ split t $
+    move t (2 ∷ []) $ pick t (λ e. split t $ drop t $ heard t (φ r) (λ x. move t (1 ∷ []) $ peeks t X (Is X) (shows 𝓛 X) r (u ∷ []) (λ is. k r x is))))
 
 -- a walk of a function's code from all arguments, over the environment γ that it is run in, shows that its run meets the contract:
 -- hs is what is had of each parameter at exit, which may be given up, and sp how its machine values are spelled

@@ -1,21 +1,18 @@
--- What a reader holds: the packet and where it lies, its two headers, its form and the choice of checksum.
+-- What a reader holds: the packet beside its two headers and the choice of checksum.
 use Rattle.std.specs.Prelude.{ℕ, Bool, false, List}
 use Rattle.space_packet.specs.Answer.{Answer, gives, refuses}
 use Rattle.space_packet.specs.Header.{header_of, id_from, psc_from}
-use Rattle.space_packet.specs.Part.{Address}
 use Rattle.space_packet.specs.declared.PacketType.TheVariants.{Tm}
 use Rattle.space_packet.specs.declared.SequenceFlags.TheVariants.{Unsegmented}
 use Rattle.space_packet.specs.declared.SpacePacketHeader.{SpacePacketHeader}
 use Rattle.ecss.specs.declared.PusVersion.TheVariants.{PusC}
-use Rattle.tc_header.specs.Form.{form_c}
 use Rattle.tc_header.specs.Header.{sec_from, ack_of}
-use Rattle.tc_header.specs.declared.TcForm.{TcForm}
 use Rattle.tc_header.specs.declared.PusTcSecondaryHeader.{PusTcSecondaryHeader}
-use Rattle.tc_read.specs.Read.{read_in, raw_data_in}
+use Rattle.tc_read.specs.Read.{read_of, raw_data_of}
 use Rattle.tc_read.specs.declared.PusTcRecord.{PusTcRecord}
 use Rattle.tc_held.specs.declared.PusTcReader.{PusTcReader}
 
--- the headers that a read reports; where it is refused, the defaults, which are those of PUS C in every form
+-- the headers that a read reports; where it is refused, the defaults
 abbrev pub primary_in : Answer PusTcRecord → SpacePacketHeader
 primary_in (gives r) = r.sp_header
 primary_in (refuses e) = header_of (id_from Tm false (record { 0 = 0 })) (psc_from Unsegmented (record { 0 = 0 })) 0 0
@@ -26,34 +23,24 @@ secondary_in (refuses e) = sec_from (record { type_id = 0; subtype_id = 0 }) (ac
 
 pub record Held : Type 0 where
   pub raw : List ℕ
-  pub at : Address
   pub sp_header : SpacePacketHeader
   pub sec_header : PusTcSecondaryHeader
   pub has_checksum : Bool
-  pub form : TcForm
 
--- what a reader holds
+-- what a reader holds, without the place where its octets lie
 abbrev pub held_by : PusTcReader → Held
 held_by r = record {
   raw = r.raw.now;
-  at = r.raw.ptr;
   sp_header = r.sp_header;
   sec_header = r.sec_header;
   has_checksum = r.has_checksum;
-  form = r.form;
 }
 
--- what is held of octets that lie at a: the packet that they begin with, or the empty part where the read is refused
-abbrev pub held_in : TcForm → List ℕ → Address → Bool → Held
-held_in f s a b = record {
-  raw = raw_data_in f s b;
-  at = a;
-  sp_header = primary_in (read_in f s b);
-  sec_header = secondary_in (read_in f s b);
+-- what is held of octets: the packet that they begin with, or the empty part where the read is refused
+abbrev pub held_of : List ℕ → Bool → Held
+held_of s b = record {
+  raw = raw_data_of s b;
+  sp_header = primary_in (read_of s b);
+  sec_header = secondary_in (read_of s b);
   has_checksum = b;
-  form = f;
 }
-
--- and in PUS C with no spare octets
-abbrev pub held_of : List ℕ → Address → Bool → Held
-held_of = held_in form_c

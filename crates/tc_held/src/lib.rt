@@ -3,14 +3,13 @@
 #![tactic(auto)]
 
 ghost use Rattle.std.specs.Prelude.{◌≡◌};
-ghost use Rattle.space_packet.specs.Part.{beyond};
-ghost use Rattle.tc_read.specs.Read.{read_in, app_data_in, app_data_at};
-ghost use Rattle.tc_compare.specs.Compare.{equals_creator_in, equals_readers};
-ghost use Rattle.tc_held.specs.Held.{primary_in, secondary_in, held_by, held_in, held_of};
+ghost use Rattle.tc_read.specs.Read.{read_of, app_data_of};
+ghost use Rattle.tc_compare.specs.Compare.{equals_creator, equals_reader};
+ghost use Rattle.tc_held.specs.Held.{primary_in, secondary_in, held_by, held_of};
 
 use ecss::MessageTypeId;
 use space_packet::SpHeader;
-use tc_header::{PusTcSecondaryHeader, TcForm};
+use tc_header::PusTcSecondaryHeader;
 use tc_read::{PusTcRecord, PusTcRecordResult};
 use tc_write::PusTcCreator;
 
@@ -20,24 +19,23 @@ pub struct PusTcReader<'a> {
     sp_header: SpHeader,
     sec_header: PusTcSecondaryHeader,
     has_checksum: bool,
-    form: TcForm,
 }
 
-// The headers that a read in a form reports; where it is refused the defaults, which are those of PUS C in every form.
-fn sp_header_in(form: TcForm, slice: &[u8], has_checksum: bool) -> SpHeader
-    ensures { result ≡ primary_in (read_in form slice.now has_checksum) }
+// The headers that a read reports; the defaults where it is refused.
+fn sp_header_in(slice: &[u8], has_checksum: bool) -> SpHeader
+    ensures { result ≡ primary_in (read_of slice.now has_checksum) }
 {
-    let read = PusTcRecord::new_no_checksum_verification_in(form, slice, has_checksum);
+    let read = PusTcRecord::new_no_checksum_verification(slice, has_checksum);
     match read {
         PusTcRecordResult::Err(_) => SpHeader::default(),
         PusTcRecordResult::Ok(record) => record.sp_header,
     }
 }
 
-fn sec_header_in(form: TcForm, slice: &[u8], has_checksum: bool) -> PusTcSecondaryHeader
-    ensures { result ≡ secondary_in (read_in form slice.now has_checksum) }
+fn sec_header_in(slice: &[u8], has_checksum: bool) -> PusTcSecondaryHeader
+    ensures { result ≡ secondary_in (read_of slice.now has_checksum) }
 {
-    let read = PusTcRecord::new_no_checksum_verification_in(form, slice, has_checksum);
+    let read = PusTcRecord::new_no_checksum_verification(slice, has_checksum);
     match read {
         PusTcRecordResult::Err(_) => PusTcSecondaryHeader::new_simple(MessageTypeId::new(0, 0)),
         PusTcRecordResult::Ok(record) => record.sec_header,
@@ -50,41 +48,27 @@ impl<'a> PusTcReader<'a> {
         sp_header: SpHeader,
         sec_header: PusTcSecondaryHeader,
         has_checksum: bool,
-        form: TcForm,
     ) -> PusTcReader<'a>
-        ensures { (result.raw ≡ raw.entry) × (result.sp_header ≡ sp_header) × (result.sec_header ≡ sec_header) × (result.has_checksum ≡ has_checksum) × (result.form ≡ form) }
+        ensures { (result.raw ≡ raw.entry) × (result.sp_header ≡ sp_header) × (result.sec_header ≡ sec_header) × (result.has_checksum ≡ has_checksum) }
     {
         PusTcReader {
             raw,
             sp_header,
             sec_header,
             has_checksum,
-            form,
         }
     }
 
-    // Holds the packet that octets begin with, of PUS C with no spare octets. Where the read is refused it holds the empty part, and
+    // Holds the packet that octets begin with. Where the read is refused it holds the empty part, and
     // PusTcRecord::new_no_checksum_verification gives the number.
     pub fn new_no_checksum_verification(slice: &'a [u8], has_checksum: bool) -> PusTcReader<'a>
-        ensures { held_by result ≡ held_of slice.now slice.entry.ref_ptr has_checksum }
-    {
-        PusTcReader::new_no_checksum_verification_in(TcForm::PUS_C, slice, has_checksum)
-    }
-
-    // The same of a form, which the reader keeps; PusTcRecord::new_no_checksum_verification_in gives the number.
-    pub fn new_no_checksum_verification_in(
-        form: TcForm,
-        slice: &'a [u8],
-        has_checksum: bool,
-    ) -> PusTcReader<'a>
-        ensures { held_by result ≡ held_in form slice.now slice.entry.ref_ptr has_checksum }
+        ensures { held_by result ≡ held_of slice.now has_checksum }
     {
         PusTcReader::of(
-            tc_read::raw_data_in(form, slice, has_checksum),
-            sp_header_in(form, slice, has_checksum),
-            sec_header_in(form, slice, has_checksum),
+            tc_read::raw_data(slice, has_checksum),
+            sp_header_in(slice, has_checksum),
+            sec_header_in(slice, has_checksum),
             has_checksum,
-            form,
         )
     }
 
@@ -107,38 +91,24 @@ impl<'a> PusTcReader<'a> {
         self.sec_header
     }
 
-    pub fn form(self) -> TcForm
-        ensures { result ≡ self.entry.form }
-    {
-        self.form
-    }
-
     // The application data, without a copy.
     pub fn app_data(self) -> &'a [u8]
-        ensures result_value { result.now ≡ app_data_in self.entry.form self.entry.raw.now self.entry.has_checksum }
-        ensures ref_ptr_value { result.ref_ptr ≡ beyond (app_data_at self.entry.form self.entry.raw.now self.entry.has_checksum) self.entry.raw.ptr }
+        ensures { result.now ≡ app_data_of self.entry.raw.now self.entry.has_checksum }
     {
-        tc_read::app_data_in(self.form, self.raw, self.has_checksum)
+        tc_read::app_data(self.raw, self.has_checksum)
     }
 
     // Whether what is held is the creator's: both headers and the data.
     pub fn eq_creator<'b>(self, creator: PusTcCreator, data: &'b [u8]) -> bool
-        ensures { result ≡ equals_creator_in self.entry.form self.entry.raw.now self.entry.has_checksum creator «data».now }
+        ensures { result ≡ equals_creator self.entry.raw.now self.entry.has_checksum creator «data».now }
     {
-        tc_compare::eq_creator_in(self.form, self.raw, self.has_checksum, creator, data)
+        tc_compare::eq_creator(self.raw, self.has_checksum, creator, data)
     }
 
     // Whether two readers hold the same packet: by their raw octets only.
     pub fn eq_reader<'b>(self, other: PusTcReader<'b>) -> bool
-        ensures { result ≡ equals_readers self.entry.form self.entry.raw.now self.entry.has_checksum other.entry.form other.entry.raw.now other.entry.has_checksum }
+        ensures { result ≡ equals_reader self.entry.raw.now self.entry.has_checksum other.entry.raw.now other.entry.has_checksum }
     {
-        tc_compare::eq_readers_in(
-            self.form,
-            self.raw,
-            self.has_checksum,
-            other.form,
-            other.raw,
-            other.has_checksum,
-        )
+        tc_compare::eq_reader(self.raw, self.has_checksum, other.raw, other.has_checksum)
     }
 }

@@ -11,7 +11,7 @@ use Rattle.ecss.specs.declared.CreatorConfig.{CreatorConfig}
 use Rattle.ecss.specs.declared.Crc16.{Crc16}
 use Rattle.ecss_write.specs.Write.{checksum_with, kept_with}
 use Rattle.ecss_write.specs.Writer.{contentBy, octets_by, newBy, afreshBy, writeBy, bareBy, ownBy}
-use Rattle.tc_header.specs.Form.{form_c, form_check, same_form}
+use Rattle.tc_header.specs.Form.{form_c, same_form}
 use Rattle.tc_header.specs.Header.{same_sec}
 use Rattle.tc_write.specs.Command.{command_in}
 use Rattle.tc_header.specs.declared.PusTcSecondaryHeader.{PusTcSecondaryHeader}
@@ -67,9 +67,9 @@ updated t n = kept_with (with_header t) (afreshBy (command_in t.form) t.sp_heade
 abbrev pub own_checksum : PusTcCreator → List ℕ → Answer ℕ
 own_checksum t d = ownBy (command_in t.form) t.sp_header t.sec_header d
 
--- the checksum that is written: 32, 19, then none, or its own
+-- the checksum that is written: none, or its own
 abbrev pub checksum_of : PusTcCreator → List ℕ → Answer Crc16
-checksum_of t d = form_check t.form then λ _. checksum_with t.has_checksum (own_checksum t d)
+checksum_of t d = checksum_with t.has_checksum (own_checksum t d)
 
 -- writing into a buffer of m octets: 32, 19, 7, 6 for the machine size, 1, 3
 abbrev pub write_of : PusTcCreator → ℕ → ℕ → Answer ℕ

@@ -544,11 +544,6 @@ impl PusTcCreator {
     pub fn checksum(self, app_data: &[u8]) -> ChecksumResult
         ensures { checksum_answer result ≡ checksum_of self app_data.now }
     {
-        let form = self.form;
-        let c = form.check();
-        if let CheckResult::Err(e) = c {
-            return ChecksumResult::Err(e);
-        }
         if !self.has_checksum {
             return ChecksumResult::Ok(Crc16::None);
         }

@@ -6,7 +6,6 @@ ghost use Rattle.std.specs.Prelude.{◌≡◌, [], ◌++◌, ◌+◌, ◌≤◌,
 ghost use Rattle.space_packet.specs.Answer.{refusal, gives, refuses, set_if, check_answer};
 ghost use Rattle.space_packet.specs.Part.{beyond};
 ghost use Rattle.space_packet.specs.Wrote.{Wrote};
-ghost use Rattle.ecss.specs.Frame.{part_after, at_after};
 ghost use Rattle.ecss.specs.Kind.{start_of, secondary_of, secondary_at};
 ghost use Rattle.ecss.specs.Version.{version_is};
 ghost use Rattle.ecss.specs.declared.PusVersion.TheVariants.{PusC};
@@ -81,16 +80,12 @@ pub fn min_len_without_source_data(time_len: u8) -> usize
     CCSDS_HEADER_LEN + sec_header_len(time_len)
 }
 
-// The octets of the secondary header in a packet; fewer where the packet is shorter, and none for a time length above 16.
+// The octets of the secondary header in a packet; fewer where the packet is shorter.
 pub fn sec_header_part(time_len: u8, packet: &[u8]) -> &[u8]
-    ensures result_value { result.now ≡ part_after (time_limit time_len) (secondary_of (tm time_len).size packet.now) }
-    ensures ref_ptr_value { result.ref_ptr ≡ beyond (at_after (time_limit time_len) (secondary_at packet.now)) packet.entry.ref_ptr }
+    ensures result_value { result.now ≡ secondary_of (tm time_len).size packet.now }
+    ensures ref_ptr_value { result.ref_ptr ≡ beyond (secondary_at packet.now) packet.entry.ref_ptr }
 {
-    let limit = check_time_len(time_len);
-    match limit {
-        CheckResult::Err(_) => &packet[..0],
-        CheckResult::Ok => frame::sec_header_part(packet, sec_header_len(time_len)),
-    }
+    frame::sec_header_part(packet, sec_header_len(time_len))
 }
 
 // What a setter and a write ask of a time reference status: 7 where it is over four bits.

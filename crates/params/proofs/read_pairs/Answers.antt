@@ -8,10 +8,6 @@ use Rattle.params.proofs.ReadLaws.{Reading, reading_begins, reading-on, reading-
 use borrow.Author.Rules.{rules}
 use Rattle.params.proofs.read_pairs.Goals as goal
 
-pub overflow_cast-n : goal.overflow_cast-n
-overflow_cast-n c =
-    omega (arith, c.shared_slice_known-2-1.given 0)
-
 pub loop-i-init : goal.loop-i-init
 loop-i-init c =
     reading_begins _ _ _ c.requires.1

@@ -10,8 +10,8 @@ use Rattle.params.proofs.read_pairs.Given as goal
 
 abbrev pub invariant-loop-i : goal.invariant-loop-i
 invariant-loop-i l =
-    Reading l.list «data» l.n l.i l.at l.pairs
+    Reading l.list l.data l.count l.i l.at l.pairs
 
 abbrev pub decreases-loop-i : goal.decreases-loop-i
 decreases-loop-i l =
-    l.n - l.i
+    l.count - l.i

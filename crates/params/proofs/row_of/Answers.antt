@@ -12,16 +12,16 @@ pub loop-i-init : goal.loop-i-init
 loop-i-init c =
     (omega arith, refl)
 
-pub returns-then-id_of-id : goal.returns-then-id_of-id
-returns-then-id_of-id c =
+pub returns-then-row-id : goal.returns-then-row-id
+returns-then-row-id c =
     let a = c.args in
-    sym (row_here a.list.now c.loop-i.i a.id _ c.loop-i-test.true (sym c.id_of.ensures ∙ c.if-id_of-id.true)) ∙ c.loop-i.invariant.1
+    sym (row_here a.list.now c.loop-i.i a.id _ c.loop-i-test.true c.if-row-id.true) ∙ c.loop-i.invariant.1
 
 pub loop-i-preserved : goal.loop-i-preserved
 loop-i-preserved c =
     let a = c.args in (
       omega arith,
-      row_on a.list.now c.loop-i.i a.id _ c.loop-i-test.true (λ z. c.if-id_of-id.false (c.id_of.ensures ∙ z)) ∙ c.loop-i.invariant.1,
+      row_on a.list.now c.loop-i.i a.id _ c.loop-i-test.true c.if-row-id.false ∙ c.loop-i.invariant.1,
     )
 
 pub returns : goal.returns

@@ -3,8 +3,9 @@ use Prim.Native.Nat.{◌-◌, ◌≤◌}
 use mathlib.Core.Path.{◌≡◌, refl, sym, ap, ◌∙◌}
 use native.Mathlib.Omega.{arith}
 use lib.ListN.{take, drop, length}
-use borrow.Author.Tests.{not-true, not-false}
+use Rattle.params.specs.Parameters.{octets_by}
 use Rattle.params.specs.Request.{ids_known}
+use Rattle.params.proofs.Lists.{known-not, known_some}
 use Rattle.params.proofs.WriteLaws.{pair-at, no_more, ids-known, ids-unknown, ids-end}
 use borrow.Author.Rules.{rules}
 use Rattle.params.proofs.Params.ids_known.Goals as goal
@@ -13,21 +14,25 @@ pub loop-i-init : goal.loop-i-init
 loop-i-init c =
     (omega arith, refl)
 
-pub returns-then-not-is_known : goal.returns-then-not-is_known
-returns-then-not-is_known c =
-    let l = c.args.list.now in
+pub returns-then-octets_for-eq0 : goal.returns-then-octets_for-eq0
+returns-then-octets_for-eq0 c =
+    let a = c.args in
+    let l = a.list.now in
     let u = c.used-n.ensures in
+    let e = c.row_of-row.ensures in
     let k = u.is ∙ ap length (sym u.first) in
-    sym (ids-unknown l _ _ _ (pair-at _ _ _ k _ c.loop-i-test.true) (sym c.is_known.ensures ∙ c.if-not-is_known.true))
+    sym (ids-unknown l _ _ _ (pair-at _ _ _ k _ c.loop-i-test.true) (known-not l _ c.requires (ap octets_by (sym e) ∙ sym c.octets_for.ensures ∙ c.if-octets_for-eq0.true)))
     ∙ c.loop-i.invariant.1 ∙ ap (ids_known l) u.first
 
 pub loop-i-preserved : goal.loop-i-preserved
 loop-i-preserved c =
-    let l = c.args.list.now in
+    let a = c.args in
+    let l = a.list.now in
     let u = c.used-n.ensures in
+    let e = c.row_of-row.ensures in
     let k = u.is ∙ ap length (sym u.first) in (
       omega arith,
-      ids-known l _ _ _ (pair-at _ _ _ k _ c.loop-i-test.true) (sym c.is_known.ensures ∙ c.if-not-is_known.false) ∙ c.loop-i.invariant.1,
+      ids-known l _ _ _ (pair-at _ _ _ k _ c.loop-i-test.true) (known_some l _ c.requires (λ z. c.if-octets_for-eq0.false (c.octets_for.ensures ∙ ap octets_by e ∙ z))) ∙ c.loop-i.invariant.1,
     )
 
 pub returns : goal.returns

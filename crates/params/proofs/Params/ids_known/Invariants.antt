@@ -3,8 +3,9 @@ use Prim.Native.Nat.{◌-◌, ◌≤◌}
 use mathlib.Core.Path.{◌≡◌, refl, sym, ap, ◌∙◌}
 use native.Mathlib.Omega.{arith}
 use lib.ListN.{take, drop, length}
-use borrow.Author.Tests.{not-true, not-false}
+use Rattle.params.specs.Parameters.{octets_by}
 use Rattle.params.specs.Request.{ids_known}
+use Rattle.params.proofs.Lists.{known-not, known_some}
 use Rattle.params.proofs.WriteLaws.{pair-at, no_more, ids-known, ids-unknown, ids-end}
 use borrow.Author.Rules.{rules}
 use Rattle.params.proofs.Params.ids_known.Given as goal

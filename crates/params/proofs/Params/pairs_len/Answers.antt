@@ -1,20 +1,13 @@
 -- `Params::pairs_len` meets its contract: the octets so far, and those of the pairs from the place i on.
-use Prim.Native.Nat.{ℕ, ◌-◌, ◌*◌, ◌≤◌}
+use Prim.Native.Nat.{◌-◌, ◌*◌, ◌≤◌}
 use mathlib.Core.Path.{◌≡◌, sym, ap, ◌∙◌}
 use native.Mathlib.Omega.{arith}
 use lib.ListN.{take, drop, length}
 use Rattle.space_packet.specs.Answer.{size_answer}
-use Rattle.params.specs.Request.{pairs_of, pairs_octets, length_of}
-use Rattle.params.specs.Places.{Used}
-use Rattle.params.specs.declared.Params.{Params}
+use Rattle.params.specs.Request.{pairs_octets, length_of}
 use Rattle.params.proofs.WriteLaws.{pair-at, no_more, adds, adds_none, adds-refused, length-on, length-not, length-end, pair-ten}
 use borrow.Author.Rules.{rules}
 use Rattle.params.proofs.Params.pairs_len.Goals as goal
-
-few : (p : Params) (n : ℕ) → Used p n → length (pairs_of p) ≤ 255
-few p n u =
-    let a = u.is in
-    let b = u.fits in omega (arith, a, b)
 
 pub loop-i-init : goal.loop-i-init
 loop-i-init c =
@@ -26,12 +19,10 @@ returns-in_default c =
     let l = a.list.now in
     let u = c.used-n.ensures in
     let k = u.is ∙ ap length (sym u.first) in
-    let r = sym c.pair_len-len.ensures ∙ ap size_answer c.in_default.is in (
-      ap size_answer c.in_default.is
-          ∙ sym (adds-refused c.loop-i.total _ _ (length-not l _ _ _ _ (pair-at _ _ _ k _ c.loop-i-test.true) r))
-          ∙ c.loop-i.invariant.2 ∙ ap (λ x. length_of (pairs_octets l x)) u.first,
-      few _ _ u,
-    )
+    let r = sym c.pair_len-len.ensures ∙ ap size_answer c.in_default.is in
+    ap size_answer c.in_default.is
+    ∙ sym (adds-refused c.loop-i.total _ _ (length-not l _ _ _ _ (pair-at _ _ _ k _ c.loop-i-test.true) r))
+    ∙ c.loop-i.invariant.2 ∙ ap (λ x. length_of (pairs_octets l x)) u.first
 
 pub overflow_add-total : goal.overflow_add-total
 overflow_add-total c =
@@ -59,8 +50,6 @@ pub returns : goal.returns
 returns c =
     let l = c.args.list.now in
     let u = c.used-n.ensures in
-    let k = u.is ∙ ap length (sym u.first) in (
-      sym (length-end l _ c.loop-i.total (no_more _ _ c.loop-i.i k c.loop-i-test.false c.loop-i.invariant.0))
-          ∙ c.loop-i.invariant.2 ∙ ap (λ x. length_of (pairs_octets l x)) u.first,
-      few _ _ u,
-    )
+    let k = u.is ∙ ap length (sym u.first) in
+    sym (length-end l _ c.loop-i.total (no_more _ _ c.loop-i.i k c.loop-i-test.false c.loop-i.invariant.0))
+    ∙ c.loop-i.invariant.2 ∙ ap (λ x. length_of (pairs_octets l x)) u.first

@@ -1,12 +1,19 @@
--- `Params::push` meets its contract: one pair more, or the record as it was.
-use Rattle.params.proofs.Rows.{taken_is, refused-is}
+-- `Params::push` meets its contract: a place more, or the count alone.
+use Prim.Native.Nat.{◌+◌}
+use mathlib.Core.Path.{sym, ap}
+use mathlib.Core.Bool.{Bool}
+use lib.ListN.{set}
+use borrow.Author.Tests.{lt-ltb, le-ltb}
+use Rattle.space_packet.specs.Bits.{pick}
 use borrow.Author.Rules.{rules}
 use Rattle.params.proofs.Params.push.Goals as goal
 
-pub returns-then-self-lt255 : goal.returns-then-self-lt255
-returns-then-self-lt255 c =
-    taken_is _ _ _ c.with.ensures c.if-self-lt255.true
+pub returns-then-n-lt255 : goal.returns-then-n-lt255
+returns-then-n-lt255 c =
+    let p = c.args.self in
+    ap (λ (b : Bool). pick b (record { pairs = set p.pairs p.count c.args.pair; count = p.count + 1 }) (record { pairs = p.pairs; count = 256 })) (sym (lt-ltb p.count 255 c.if-n-lt255.true))
 
 pub returns : goal.returns
 returns c =
-    refused-is _ _ c.if-self-lt255.false
+    let p = c.args.self in
+    ap (λ (b : Bool). pick b (record { pairs = set p.pairs p.count c.args.pair; count = p.count + 1 }) (record { pairs = p.pairs; count = 256 })) (sym (le-ltb p.count 255 c.if-n-lt255.false))

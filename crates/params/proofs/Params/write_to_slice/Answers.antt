@@ -18,22 +18,16 @@ returns-then-buf-total c =
 
 pub overflow_cast-buf : goal.overflow_cast-buf
 overflow_cast-buf c =
-    let a = c.args in
-    let h = count_fits a.list.now (pairs_of a.self) _ a.buf.now (sym c.len_written-len.ensures ∙ ap size_answer c.in-Ok.is) c.if-buf-total.false in
-    let e = c.len.ensures in omega (arith, h, e)
+    let h = count_fits c.args.list.now c.args.self.count (pairs_of c.args.self) _ c.args.buf.now (sym c.len_written-len.ensures ∙ ap size_answer c.in-Ok.is) c.if-buf-total.false in omega (arith, h)
 
 pub bounds-buf-0 : goal.bounds-buf-0
 bounds-buf-0 c =
-    let a = c.args in
-    let h = total-is a.list.now (pairs_of a.self) _ a.buf.now (sym c.len_written-len.ensures ∙ ap size_answer c.in-Ok.is) c.if-buf-total.false in
-    let k = c.if-buf-total.false in omega (arith, h, k)
+    let h = total-is c.args.list.now c.args.self.count (pairs_of c.args.self) _ c.args.buf.now (sym c.len_written-len.ensures ∙ ap size_answer c.in-Ok.is) c.if-buf-total.false in let k = c.if-buf-total.false in omega (arith, h, k)
 
 pub put_pairs-requires : goal.put_pairs-requires
 put_pairs-requires c =
-    let a = c.args in
-    pairs-room a.list.now (pairs_of a.self) _ a.buf.now (sym c.len_written-len.ensures ∙ ap size_answer c.in-Ok.is) c.if-buf-total.false _ (length-set a.buf.now 0 _)
+    pairs-room c.args.list.now c.args.self.count (pairs_of c.args.self) _ c.args.buf.now (sym c.len_written-len.ensures ∙ ap size_answer c.in-Ok.is) c.if-buf-total.false _ (length-set c.args.buf.now 0 _)
 
 pub returns : goal.returns
 returns c =
-    let a = c.args in
-    wrote-done a.list.now (pairs_of a.self) _ a.buf.now (sym c.len_written-len.ensures ∙ ap size_answer c.in-Ok.is) c.if-buf-total.false _ c.len.ensures _ c.put_pairs.ensures
+    wrote-done c.args.list.now c.args.self.count (pairs_of c.args.self) _ c.args.buf.now (sym c.len_written-len.ensures ∙ ap size_answer c.in-Ok.is) c.if-buf-total.false _ c.put_pairs.ensures

@@ -128,7 +128,3 @@ returns-in-TooManyApids c =
 pub returns-in-SourceWidth : goal.returns-in-SourceWidth
 returns-in-SourceWidth c =
     told c.in_numbers-in-SourceWidth.ensures c.in-SourceWidth.is
-
-pub returns-in-NotASetRequest : goal.returns-in-NotASetRequest
-returns-in-NotASetRequest c =
-    told c.in_numbers-in-NotASetRequest.ensures c.in-NotASetRequest.is

@@ -1,0 +1,28 @@
+-- `Scan::accept` meets its contract, in each of its five exits.
+use Rattle.gaps.proofs.Scans.{takes_none, takes_first, takes-next, takes-no-place, takes-gap}
+use borrow.Author.Rules.{rules}
+use Rattle.gaps.proofs.Scan.accept.Goals as goal
+
+pub returns-then-p-ge-MAX_APIDS : goal.returns-then-p-ge-MAX_APIDS
+returns-then-p-ge-MAX_APIDS c =
+    takes_none _ c.requires.0 _ _ _ _ _ c.value-apid.ensures c.place-p.ensures c.if-n-p.true c.if-p-ge-MAX_APIDS.true
+
+pub returns-then-n-p : goal.returns-then-n-p
+returns-then-n-p c =
+    takes_first _ c.requires.0 _ _ _ _ _ c.value-apid.ensures c.place-p.ensures c.if-n-p.true c.if-p-ge-MAX_APIDS.false
+    _ c.noting.ensures
+
+pub returns-then-found-expected : goal.returns-then-found-expected
+returns-then-found-expected c =
+    takes-next _ c.requires.0 _ _ _ _ _ c.value-apid.ensures c.place-p.ensures c.if-n-p.false
+    _ _ c.after-expected.ensures c.value-found.ensures c.if-found-expected.true _ c.noting-then-found-expected.ensures
+
+pub returns-then-places-listed : goal.returns-then-places-listed
+returns-then-places-listed c =
+    takes-no-place _ c.requires.0 _ _ _ _ _ c.value-apid.ensures c.place-p.ensures c.if-n-p.false
+    _ _ c.after-expected.ensures c.value-found.ensures c.if-found-expected.false c.if-places-listed.true c.no_place.result c.no_place.ensures
+
+pub returns : goal.returns
+returns c =
+    takes-gap _ c.requires.0 _ _ _ _ _ c.value-apid.ensures c.place-p.ensures c.if-n-p.false
+    _ _ c.after-expected.ensures c.value-found.ensures c.if-found-expected.false c.if-places-listed.false _ c.noting-2.ensures

@@ -1,0 +1,16 @@
+-- `TcForm::put_spare` meets its contract: zeros stand behind the first `at` octets, one more after each turn, and n - i falls.
+use Prim.Native.Nat.{ℕ, ◌-◌, ◌+◌, ◌≤◌}
+use mathlib.Core.Path.{◌≡◌, refl, ap₂, ◌∙◌}
+use native.Mathlib.Omega.{arith}
+use lib.ListN.{length, length-set}
+use Rattle.tc_header.proofs.Spares.{zeroed, zero-none, zero-put}
+use borrow.Author.Rules.{rules}
+use Rattle.tc_header.proofs.TcForm.put_spare.Given as goal
+
+abbrev pub invariant-loop-i : goal.invariant-loop-i
+invariant-loop-i l =
+    (l.i ≤ l.n) × (l.at + l.n ≤ length l.initial.buf) × (l.buf ≡ zeroed l.at l.initial.buf l.i) × (length l.buf ≡ length l.initial.buf)
+
+abbrev pub decreases-loop-i : goal.decreases-loop-i
+decreases-loop-i l =
+    l.n - l.i

@@ -1,0 +1,18 @@
+-- `PusTcCreator::put` meets its contract: the shared write of its checks and its encoded header.
+use mathlib.Core.Path.{refl}
+use native.Mathlib.Omega.{arith}
+use lib.ListN.{replicate}
+use Rattle.ecss_write.proofs.Calls.{put-wrote}
+use Rattle.tc_write.specs.Command.{command_in}
+use Rattle.tc_write.proofs.Command.{hands}
+use borrow.Author.Rules.{rules}
+use Rattle.tc_write.proofs.PusTcCreator.put.Goals as goal
+
+pub returns : goal.returns
+returns c =
+    let a = c.args in
+    let t = a.self in
+    put-wrote (command_in t.form) t.sp_header t.sec_header c.asks.result _
+    (hands t.form t.sec_header (replicate 9 0) _ _ _ refl (omega arith) c.write_to_slice_in.ensures.left
+    c.sec_header_len.ensures c.front-second.ensures.result_value c.asks.result c.asks.ensures)
+    t.has_checksum a.app_data.now a.buf.now _ _ a.bare c.put.ensures

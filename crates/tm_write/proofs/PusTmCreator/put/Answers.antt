@@ -1,0 +1,20 @@
+-- `PusTmCreator::put` meets its contract: the shared write of its checks and its encoded header.
+use mathlib.Core.Path.{refl}
+use native.Mathlib.Omega.{arith}
+use lib.ListN.{replicate}
+use Rattle.ecss_write.proofs.Calls.{put-wrote}
+use Rattle.tm_write.specs.Report.{report_by}
+use Rattle.tm_write.specs.Creator.{header_with}
+use Rattle.tm_write.proofs.Report.{hands}
+use borrow.Author.Rules.{rules}
+use Rattle.tm_write.proofs.PusTmCreator.put.Goals as goal
+
+pub returns : goal.returns
+returns c =
+    let a = c.args in
+    let t = a.self in
+    let x = header_with t a.time.now in
+    put-wrote (report_by t.time_len) t.sp_header x c.asks.result _
+    (hands t.time_len x (replicate 23 0) _ _ _ refl (omega arith) c.write_to_slice.ensures.left
+    c.sec_header_len.ensures c.front-second.ensures.result_value c.asks.result c.asks.ensures)
+    t.has_checksum a.source_data.now a.buf.now _ _ a.bare c.put.ensures
