@@ -4,7 +4,7 @@
 It speaks the protocol of docs/PROTOCOL.md, one request a line in and one answer a line out, and was written from the
 layout, the table of refusals and the orders of refusals, without a look at the port or at the crate. The checksum is
 Python's own, binascii.crc_hqx. Unlike the crate it also has an answer outside the domain of equality (a field over its
-width, a version other than C, a total above 65,542 octets), to `strict`, `split`, `track`, `best`, `params`, `wparams`, `setreq`,
+width, a version other than C, a total above 65,542 octets), to `strict`, `split`, `track`, `best`, `params`, `wparams`,
 `profile`, `pbuild` and `gaps`, and to requests in PUS A, with spare octets and of telemetry. What is open it works out from all
 calls so far, each time anew.
 
@@ -315,7 +315,7 @@ def build(setters, data, form):
 
 
 def reserve(sp, sec, data_len, has_checksum, fill, finish, buffer, form):
-    """32, 19 or 14, 7, 6 for the machine size, 1, 6 for the packet limit, 3; then the data part filled, then the finish."""
+    """19 or 14, 7, 6 for the machine size, 1, 6 for the packet limit, 3; then the data part filled, then the finish."""
     start = form.start
     total = start + data_len + 2 * has_checksum
     try:
@@ -371,12 +371,7 @@ class Reader:
         return [self.total, self.start, len(self.data)]
 
     def equals_creator(self, creator):
-        """By both headers, of a report with its time, and the data."""
-        return headers_told(self) == headers_told(creator) and self.data == creator.data
-
-
-def headers_told(record):
-    return [str(word) for word in (record.sp, *record.sec.words())]
+        return str(self.sp) == str(creator.sp) and str(self.sec) == str(creator.sec) and self.data == creator.data
 
 
 WAYS = {'new': 'compared', 'nt': 'compared', 'noverify': 'taken', 'nocrc': 'none'}
@@ -542,13 +537,6 @@ def params(rows, data):
     return ['ok', len(words), *words]
 
 
-def setreq(rows, octets):
-    """A set request as a packet: the strict verdict; 33, another service or subtype; then as its data are read."""
-    reader = strict(octets)
-    refuse_if((reader.sec.service, reader.sec.subtype) != (20, 3), 33)
-    return params(rows, reader.data)
-
-
 def value_octets(kind, letter, value):
     """24: a value of another kind, or over its width."""
     refuse_if(kind[0] != letter, 24)
@@ -561,12 +549,12 @@ def value_octets(kind, letter, value):
 
 
 def set_request(rows, pairs_set):
-    """The application data: 21, 22 of any pair, 24."""
-    types = checked_list(rows)
-    refuse_if(any(number not in types for number, _, _ in pairs_set), 22)
+    """The application data. A record holds the first 255 pairs, and how many there were."""
+    types, held = checked_list(rows), pairs_set[:MOST_PAIRS]
+    refuse_if(any(number not in types for number, _, _ in held), 22)
     refuse_if(len(pairs_set) > MOST_PAIRS, 24)
-    written = [number.to_bytes(2, 'big') + value_octets(types[number], letter, value) for number, letter, value in pairs_set]
-    return b''.join([bytes([len(pairs_set)]), *written])
+    written = [number.to_bytes(2, 'big') + value_octets(types[number], letter, value) for number, letter, value in held]
+    return b''.join([bytes([len(held)]), *written])
 
 
 def wparams(rows, pairs_set, buffer):
@@ -733,7 +721,7 @@ def pattern(size):
 
 
 def PAIRS(word):
-    """`ID=u:N`, `ID=s:N`, `ID=f:` and eight digits, `ID=d:` and sixteen, with `;` between, at most 512 of them; `-` for none."""
+    """`ID=u:N`, `ID=s:N`, `ID=f:` and eight digits, `ID=d:` and sixteen, with `;` between; `-` for none."""
     values = {'u': U64, 's': signed, 'f': pattern(4), 'd': pattern(8)}
     made = []
     for item in [] if word == '-' else word.split(';'):
@@ -742,8 +730,6 @@ def PAIRS(word):
         if not equals or not colon or letter not in values:
             raise BadRequest
         made.append((U16(number), letter, values[letter](value)))
-    if len(made) > 512:
-        raise BadRequest
     return made
 
 
@@ -827,9 +813,9 @@ def do_reserve(sp, sec, data_len, has_checksum, fill, finish, buffer, form=PUS_C
     return reserve(sp, sec, data_len, has_checksum, fill, finish, buffer, form)
 
 
-def timed(do, at=1):
-    """A request whose header, the field at this place, has its time in the next one."""
-    return lambda *fields: do(*fields[:at], fields[at].at(fields[at + 1]), *fields[at + 2:])
+def timed(do):
+    """A request whose header has its time in the next field."""
+    return lambda sp, tm, time, *fields: do(sp, tm.at(time), *fields)
 
 
 def do_cmprc(mode, octets, sp, sec, set_length, has_checksum, data, edits, form=PUS_C):
@@ -905,23 +891,20 @@ REQUESTS = {
     'best': (best, [U8, DATA, DATA]),
     'params': (params, [LIST, DATA]),
     'wparams': (wparams, [LIST, PAIRS, DATA]),
-    'setreq': (setreq, [LIST, DATA]),
     'profile': (do_profile, [DATA]),
     'pbuild': (do_pbuild, [PROFILE_SETTERS, DATA, DATA]),
     'gaps': (gaps, [U16, DATA]),
 }
-IN_COMMANDS = {kind: REQUESTS[kind] for kind in ('read', 'create', 'build', 'strict', 'reserve', 'split', 'cmprc', 'cmprr')}
-TM_CREATION = [SP, TM, DATA, FLAG, FLAG, DATA, TM_EDITS]
+IN_PUS_A = {kind: REQUESTS[kind] for kind in ('read', 'create', 'build', 'strict')}
+IN_PUS_C = IN_PUS_A | {kind: REQUESTS[kind] for kind in ('reserve', 'split', 'cmprc', 'cmprr')}
 IN_TELEMETRY = {
     'read': REQUESTS['read'],
-    'create': (timed(do_create), [*TM_CREATION, DATA]),
+    'create': (timed(do_create), [SP, TM, DATA, FLAG, FLAG, DATA, TM_EDITS, DATA]),
     'reserve': (timed(do_reserve), [SP, TM, DATA, U64, FLAG, DATA, FIN, DATA]),
     'strict': REQUESTS['strict'],
-    'cmprc': (timed(do_cmprc, 3), [MODE, DATA, *TM_CREATION]),
-    'cmprr': REQUESTS['cmprr'],
 }
 # the form of a number, and what may come after it
-FORMS = {'a': (pus_a, IN_COMMANDS), 'c': (pus_c, IN_COMMANDS), 't': (telemetry, IN_TELEMETRY)}
+FORMS = {'a': (pus_a, IN_PUS_A), 'c': (pus_c, IN_PUS_C), 't': (telemetry, IN_TELEMETRY)}
 
 
 def FORM(word):

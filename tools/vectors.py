@@ -12,23 +12,20 @@ out at every run.
     read     every short slice with every small length field in each way of reading; verifying; comparisons
     strict   each refusal of the strict verdict, faults together, and captures for the splitter
     grammar  lines that are no request, and their neighbours that are
-    pus_a    PUS A at each source width: read, judged, created, built, reserved, compared and split, at the edges and refused;
-             other widths
-    telemetry  reports at time lengths from 0 to 16: read, judged, created, reserved and compared; other lengths; their grammar
+    pus_a    PUS A at each source width: read, judged, created and built, at the edges and refused; other widths
+    telemetry  reports at time lengths from 0 to 16: read, judged, created and reserved; other lengths; their grammar
     track    histories of the tracker: every pair of reports for every choice of acknowledgements, full tables, duplicates,
              reports that are none, random histories, and the grammar of the calls
     best     two captures of a report: each fault in one, in the other and in both, octets after the packet, empty captures,
              two packets that both pass, time lengths from 0 to 255, and the grammar of the fields
     spare    PUS C at each spare length: read, judged, created, built, reserved, compared and split, with each spare octet wrong,
              the largest packets, the same octets at every length, other lengths, and the grammar
-    params   set requests read and written, and read from their packets: every width's edges, NaNs of each kind, zeros, infinities,
-             data that end early everywhere, the orders of refusals, faults of the list, up to 301 pairs, and the grammar of the three
+    params   set requests read and written: every width's edges, NaNs of each kind, zeros, infinities, data that end early
+             everywhere, the orders of refusals, faults of the list, 255 pairs, and the grammar of both
     profile  the small-satellite profile, judged and built: each rule at its edges, rules broken together, faults that stand before
              them, bits changed in an accepted packet, and the grammar
     gaps     captures with counts that follow and that do not, at the edges and around 16,383; 63 to 66 APIDs; refused packets
              between, tails, random captures, each with lists of no place and of some; and the grammar
-    flips    commands of each edition and spare length that are accepted, and then with one, two or three bits changed, each of which
-             is refused; of 11 to 4,095 octets
 
     tools/vectors.py FOLDER
 """
@@ -361,23 +358,19 @@ def form_grammar():
     for form in ('a', 'a08', 'a255', 'a256', 'a-8', 'a+8', 'a8.', 'a8,', 'aa8', 'A8', '8', '8a', 'b8', 'c0', 't0',
                  'a00000000000000000008', 'a000000000000000000008'):
         yield f'in {form} strict -'
-    for other in ('crc 00', 'sphread -', f'reserve {P5_SP} {P5_SEC} 0 1 - f -', 'split -', 'cmprr new - new -', 'consts',
-                  f'reserve {P5_SP} {P5_SEC} 0 1 - x -', f'reserve {P5_SP} {P5_SEC} 0 1 00 f -', 'split 0', 'split - -', 'cmprr new - new',
-                  f'cmprc new - {P5_SP} {P5_SEC} 1 1 - -', f'cmprc new - {P5_SP} {P5_SEC} 1 1 - apid=65536', f'cmprc new - {P5_SP} {P5_SEC} 1 1 -'):
-        yield from (f'in {form} {other}' for form in ('a8', 'a9'))
+    for other in ('crc 00', 'sphread -', f'reserve {P5_SP} {P5_SEC} 0 1 - f -', 'split -', 'cmprr new - new -', 'consts'):
+        yield f'in a8 {other}'
+    yield 'in a9 split -'
 
 
 def pus_a_requests(rng):
-    parts = a_readings, a_writings, a_orders, form_orders, form_reservations, a_comparisons, form_splits
     for width in 0, 8, 16:
         form = pus_a(width)
-        yield from (f'in a{width} {request}' for part in parts for request in part(rng, form))
-    # Another width is refused before everything else that is wrong; a reservation tells the buffer too.
-    wrong = '8,1,1,2048,3,5,6 2,16,17,1,65535'
+        yield from (f'in a{width} {request}' for part in (a_readings, a_writings) for request in part(rng, form))
+    # Another width is refused before everything else that is wrong.
     for width in 1, 9, 24, 255:
         yield from (f'in a{width} {request}' for request in (
-            f'read new {P5}', 'strict -', f'create {wrong} 1 1 - apid=2048 -', 'build ack=16 - -',
-            f'reserve {wrong} {MACHINE} 1 - f A0B1', f'cmprc new - {wrong} 1 1 - -', 'cmprr new - nocrc -', f'split {P5}', 'split -'))
+            f'read new {P5}', 'strict -', 'create 8,1,1,2048,3,5,6 2,16,17,1,65535 1 1 - apid=2048 -', 'build ack=16 - -'))
     yield f'strict {text(a_packet(pus_a(16)))}'           # PUS C refuses version 1 as before
 
 
@@ -417,28 +410,6 @@ def a_readings(rng, form):
     yield f'strict {text(ping[:form.start - 1])}'
 
 
-def a_orders(_, form):
-    """A reservation with a source ID at its edges and over them: place 5 comes after place 4, before size, room and version."""
-    within, over = a_sources(form)
-    for source, fields in itertools.product(within + over, ('1,15', '1,16', '2,15')):
-        for size, room in (0, form.start + 2), (0, form.start + 1), (MACHINE, 3):
-            yield f'reserve {P5_SP} {fields},17,1,{source} {size} 1 - f {zeros(room)}'
-
-
-def a_comparisons(rng, form):
-    within, over = a_sources(form)
-    sec = f'1,15,17,1,{within[-1]}'
-    packet = a_packet(form, data=rng.randbytes(3), source=within[-1])
-    yield from form_comparisons(form, packet, f'{P5_SP} {sec}', (
-        'ack=0', *(f'source={source}' for source in within[:-1] + over), 'version=2', 'version=0', 'ack=16'))
-    for source in over:                                   # a construction that is refused
-        yield f'cmprc new {text(packet)} {P5_SP} 1,15,17,1,{source} 1 1 - -'
-    # The reader reports A, whatever stands there; the raw octets are compared as they stand.
-    other = text(with_octet(packet, 6, 0x2F))
-    yield f'cmprc new {other} {P5_SP} {sec} 1 1 {text(packet[form.start:-2])} -'
-    yield f'cmprr new {text(packet)} new {other}'
-
-
 def a_writings(rng, form):
     within, over = a_sources(form)
     total = form.start + 4                                # of two octets of data and a checksum
@@ -468,6 +439,7 @@ def a_writings(rng, form):
         yield f'create {P5_SP} 1,15,17,1,{within[-1]} 1 1 {text(data)} - -'
 
 
+
 TIME_LENGTHS = (0, 1, 4, 7, 16)
 TM_SP, PONG = '0,0,1,291,3,5,0', '2,1,17,2,3,4'           # the report of a ping
 
@@ -489,7 +461,7 @@ def with_octet(packet, at, octet):
 def telemetry_requests(rng):
     for length in TIME_LENGTHS:
         form = telemetry(length)
-        yield from (f'in t{length} {request}' for part in (tm_readings, tm_writings, tm_comparisons) for request in part(rng, form))
+        yield from (f'in t{length} {request}' for part in (tm_readings, tm_writings) for request in part(rng, form))
     parts = tm_lengths, tm_verdicts, tm_edits, tm_orders, tm_reservations
     yield from (f'in t7 {request}' for part in parts for request in part(rng, telemetry(7)))
     yield from tm_fields(rng)
@@ -515,8 +487,7 @@ def tm_above_16():
         yield from (f'in t{length} {request}' for request in (
             'read new -', f'strict {text(tm(telemetry(16), bytes(9)))}',
             'create 8,0,1,2048,3,16384,0 1,16,17,2,3,4 - 1 1 - status=16 -',
-            f'reserve 8,0,1,2048,3,16384,0 1,16,17,2,3,4 - {MACHINE} 1 0A c 0B', 'cmprr new - nocrc -', f'cmprr new {P5} new {P5}',
-            'cmprc new - 8,0,1,2048,3,16384,0 1,16,17,2,3,4 - 1 1 - status=16', f'cmprc nocrc {P5} {TM_SP} {PONG} {time} 1 1 - -'))
+            f'reserve 8,0,1,2048,3,16384,0 1,16,17,2,3,4 - {MACHINE} 1 0A c 0B'))
         for headers in (f'{TM_SP} {PONG}', f'8,0,1,291,3,5,0 {PONG}', f'0,0,1,2048,3,5,0 {PONG}',
                         f'0,0,1,291,3,16384,0 {PONG}', f'{TM_SP} 2,16,17,2,3,4', f'{TM_SP} 1,1,17,2,3,4'):
             yield from (f'in t{length} create {headers} {time} {set_length} 1 - - {zeros(40)}' for set_length in '10')
@@ -542,24 +513,6 @@ def tm_writings(rng, form):
     for other in sorted({max(0, length - 1), length + 1, 0} - {length}):      # a time of another length, all else good
         yield f'create {headers} {text(clock(other))} 1 1 0A0B - {zeros(total + 1)}'
     yield f'reserve {headers} {text(clock(other))} 2 1 0A0B f {zeros(total + 1)}'
-
-
-def tm_comparisons(rng, form):
-    length, packet = form.last_octets, tm(form, rng.randbytes(3))
-    time, data = text(clock(length)), text(packet[form.start:-2])
-    yield from form_comparisons(form, packet, f'{TM_SP} {PONG} {time}', (
-        'status=0', 'counter=4', 'dest=3', 'version=1', 'version=0', 'status=16'))
-    for at in range(length):                              # each octet of the creator's time
-        other = clock(length)[:at] + b'\0' + clock(length)[at + 1:]
-        yield f'cmprc new {text(packet)} {TM_SP} {PONG} {text(other)} 1 1 {data} -'
-    for other in sorted({max(0, length - 1), length + 1, 0} - {length}):      # refused, but after a read that is refused
-        yield from (f'cmprc {mode} {text(packet[:-1] + b"!")} {TM_SP} {PONG} {text(clock(other))} 1 1 {data} -' for mode in MODES)
-    for fields in '2,16,17,2,3,4', '1,1,17,2,3,4':        # a construction that is refused, and one that is not
-        yield f'cmprc new {text(packet)} {TM_SP} {fields} {time} 1 1 {data} -'
-    # The reader reports C, whatever stands there; the raw octets are compared as they stand.
-    other = text(with_octet(packet, 6, 0x91))
-    yield f'cmprc new {other} {TM_SP} {PONG} {time} 1 1 {data} -'
-    yield f'cmprr new {text(packet)} new {other}'
 
 
 def tm_lengths(_, form):
@@ -688,14 +641,10 @@ def tm_grammar():
     for form in ('t07', 't016', 't017', 't256', 't-1', 't+7', 't7.', 'tt7', 'T7', '7t', 'at7', 't00000000000000000007',
                  't000000000000000000007'):
         yield f'in {form} strict -'
-    time = text(clock(7))
     for other in ('crc 00', 'sphread -', f'sphwrite {TM_SP} -', 'build - - -', 'split -', 'cmprr new - new -', 'consts',
-                  f'cmprc new - {TM_SP} {PONG} {time} 1 1 - -', f'cmprc new - {TM_SP} {PONG} 1 1 - -', f'cmprc new - {TM_SP} {P5_SEC} {time} 1 1 - -',
-                  f'cmprc new - {TM_SP} {PONG} {time} 1 1 - ack=1', f'cmprc new - {TM_SP} {PONG} {time} 1 1 - - -',
-                  f'cmprc new 0 {TM_SP} {PONG} {time} 1 1 - -', f'cmprc new - {TM_SP} {PONG} {time}0 1 1 - -', f'cmprc new - {TM_SP} {PONG} {time} 1 1 0 -',
-                  f'cmprc crc - {TM_SP} {PONG} {time} 1 1 - -', f'cmprc new - {TM_SP} {PONG} {time} 1 2 - -', 'cmprr new - crc -', 'cmprr new - new',
-                  'cmprr new - new - -', 'cmprr new 0 new -', 'cmprr new - new 0'):
-        yield from (f'in {form} {other}' for form in ('t7', 't17'))
+                  f'cmprc new - {TM_SP} {PONG} {text(clock(7))} 1 1 - -'):
+        yield f'in t7 {other}'
+    yield 'in t17 split -'
     for fields in ('2,0,17,2,0', '2,0,17,2,0,0,0', '2,0,17,2,0,', ',0,17,2,0,0', '3,0,17,2,0,0', '02,0,17,2,0,0',
                    '2,256,17,2,0,0', '2,0,256,2,0,0', '2,0,17,256,0,0', '2,0,17,2,65536,0', '2,0,17,2,0,65536',
                    '2,0,17,2,0,-', '-', P5_SEC, '2,015,017,02,0000256,00'):
@@ -973,7 +922,7 @@ def gaps_grammar():
 
 
 def spare_requests(rng):
-    parts = spare_readings, spare_verdicts, spare_writings, form_orders, form_reservations, spare_comparisons, form_splits
+    parts = spare_readings, spare_verdicts, spare_writings, spare_orders, spare_reservations, spare_comparisons, spare_splits
     for spare in range(5):
         form = pus_c(spare)
         yield from (f'in c{spare} {request}' for part in parts for request in part(rng, form))
@@ -1027,72 +976,49 @@ def spare_writings(rng, form):
     yield f'build cksum=0;ack=9;data=1 0A0B {text(rng.randbytes(total - 3))}'
 
 
-def form_orders(_, form):
+def spare_orders(_, form):
     """The faults of a creation and a reservation, alone and with each other."""
     for chosen in itertools.chain.from_iterable(itertools.combinations(('apid', 'ack', 'version', 'room'), count) for count in (1, 2)):
         sp = row([0, 1, 1, 2048 if 'apid' in chosen else 291, 3, 5, 0])
-        version = 3 - form.version if 'version' in chosen else form.version
-        sec = row([version, 16 if 'ack' in chosen else 15, 17, 1, 0])
+        sec = row([1 if 'version' in chosen else 2, 16 if 'ack' in chosen else 15, 17, 1, 0])
         buffer = zeros(form.start + 2 - ('room' in chosen))
         yield f'create {sp} {sec} 1 1 - - {buffer}'
         yield f'reserve {sp} {sec} 0 1 - f {buffer}'
 
 
-def form_reservations(rng, form):
-    headers = f'{P5_SP} {form.version},15,17,1,0'
+def spare_reservations(rng, form):
     for size, has, finish in itertools.product((0, 2), (0, 1), 'fnc'):
         total = form.start + size + 2 * has
         for room, fill in (total, size), (total + 2, 0), (total - 1, size):
-            yield f'reserve {headers} {size} {has} {text(rng.randbytes(fill))} {finish} {text(rng.randbytes(room))}'
-    most = LIMIT - form.start - 2
-    for size in most, most + 1, MACHINE - form.start - 2, MACHINE - form.start - 1, MACHINE:
-        yield f'reserve {headers} {size} 1 - f {zeros(13)}'
-
-
-def form_comparisons(form, packet, headers, edits):
-    """A packet with the creator of these headers, which made it: in each way of reading, whole, with octets after it, cut and damaged; each
-    field of the creator changed alone, these edits among them; each octet of the packet changed alone, and of the data. Then packets with
-    each other, each way of reading with each."""
-    data = text(packet[form.start:-2])
-    same = f'{headers} 1 1 {data}'
-    wrong = packet[:-1] + bytes([packet[-1] ^ 1])
-    others = packet, packet + b'tail', packet[:-1], packet[:form.start], wrong, b''
-    for mode in MODES:
-        yield from (f'cmprc {mode} {text(octets)} {same} -' for octets in others)
-        yield f'cmprc {mode} {text(packet)} {headers} 1 0 {text(packet[form.start:])} -'          # without a checksum it is data
-        yield f'cmprc {mode} {text(packet)} {headers} 0 0 {data} dlen={len(packet) - 7}'          # the creator's own is not compared
-    for edit in ('pvn=1', 'type=0', 'type=1', 'shf=0', 'apid=0', 'sflags=0', 'scount=0', 'dlen=0', 'service=0', 'subtype=0', 'apid=0;apid=291',
-                 'dlen=0;upd', 'apid=2048', *edits):
-        yield from (f'cmprc {mode} {text(packet)} {same} {edit}' for mode in ('new', 'nocrc'))
-    for other in '-', data[:-2], data + '00', data[:-1] + ('0' if data[-1] == 'F' else 'F'):
-        yield f'cmprc new {text(packet)} {headers} 1 1 {other} dlen={len(packet) - 7}'
-    for at in range(len(packet) - 2):
-        other = text(with_octet(packet, at, packet[at] ^ 1))
-        yield f'cmprc noverify {other} {same} -'
-        yield f'cmprr new {text(packet)} new {other}'
-        yield f'cmprr nocrc {other} noverify {text(packet)}'
-    for mode, way in itertools.product(MODES, MODES):
-        yield from (f'cmprr {mode} {text(packet)} {way} {text(octets)}' for octets in others)
-        yield f'cmprr {mode} {text(wrong)} {way} {text(wrong + b"tail")}'
-        yield f'cmprr {mode} {text(packet[:-1])} {way} {text(packet[:form.start - 1])}'
+            yield f'reserve {P5_SP} {P5_SEC} {size} {has} {text(rng.randbytes(fill))} {finish} {text(rng.randbytes(room))}'
+    for size in 65529 - form.spare, 65530 - form.spare, MACHINE - form.start - 2, MACHINE - form.start - 1, MACHINE:
+        yield f'reserve {P5_SP} {P5_SEC} {size} 1 - f {zeros(13)}'
 
 
 def spare_comparisons(rng, form):
-    packet = tc(rng.randbytes(3), form=form)              # a spare octet is none of a creator's, but one of the raw octets
-    yield from form_comparisons(form, packet, f'{P5_SP} {P5_SEC}', ('ack=0', 'source=1', 'version=1', 'version=0', 'ack=16'))
+    data = rng.randbytes(3)
+    packet = tc(data, form=form)
+    same = f'{P5_SP} {P5_SEC} 1 1 {text(data)}'
+    for mode in MODES:
+        yield f'cmprc {mode} {text(packet)} {same} -'
+        yield f'cmprc {mode} {text(packet)} {P5_SP} {P5_SEC} 1 0 {text(packet[form.start:])} -'
+        yield f'cmprc {mode} {text(packet[:-1])} {same} -'
+        yield f'cmprr {mode} {text(packet)} {mode} {text(packet + b"tail")}'
+        yield f'cmprr {mode} {text(packet)} nocrc {text(packet[:form.start])}'
+    for at in range(form.spare_at, form.start + 1):       # a spare octet is none of a creator's, but one of the raw octets
+        other = text(with_octet(packet, at, packet[at] ^ 1))
+        yield f'cmprc noverify {other} {same} -'
+        yield f'cmprr new {text(packet)} new {other}'
+    yield f'cmprc new {text(packet)} {same} source=1'
 
 
-def form_splits(rng, form):
-    packet = tc(rng.randbytes(2), sec=(form.version, 15, 17, 1, 0), form=form)
+def spare_splits(rng, form):
+    packet = tc(rng.randbytes(2), form=form)
     wrong = [with_octet(packet, at, 1) for at in range(form.spare_at, form.start)]
     idle = [with_octet(with_octet(one, 0, 0x1F), 1, 0xFF) for one in (packet, *wrong)]    # 12 comes before 20
     yield f'split {text(b"".join([packet, *wrong, *idle, tc(), packet, packet[:-1]]))}'
     yield f'split {text(packet[:5])}'
     yield 'split -'
-    each = [faulty(packet, [fault]) for fault in FAULTS if fault != 'short']
-    for octets in b''.join(each), b''.join(each[::-1]) + packet, packet * 5 + bytes(7), a_packet(pus_a(8)) + packet + tm(telemetry(0)):
-        yield f'split {text(octets)}'
-    yield from (f'split {text(packet + packet[:length])}' for length in range(len(packet)))
 
 
 def spare_above_4():
@@ -1161,7 +1087,6 @@ def params_requests(rng):
     yield from params_early()
     yield from params_lists()
     yield from params_written()
-    yield from params_packets()
     yield from (params_line(rng) for _ in range(200))
     yield from params_grammar()
 
@@ -1232,31 +1157,9 @@ def params_written():
     for count in (254, 255, 256, 257, 300):
         for size in (764, 765, 766, 767, 1000):
             yield f'wparams {WHOLE} {";".join(cut[:count])} {zeros(size)}'
-    for count in (254, 255, 256, 300):                     # an unknown ID behind them, then one over its width
-        yield f'wparams {WHOLE} {";".join(cut[:count])};8=u:0 {zeros(2)}'
-        yield f'wparams {WHOLE} {";".join(cut[:count])};7=u:256 {zeros(2)}'
-        yield f'wparams {WHOLE} 7=u:256;{";".join(cut[:count])};8=u:0 {zeros(2)}'
+    yield f'wparams {WHOLE} {";".join(cut[:256])};8=u:0 {zeros(2)}'
     yield f'wparams {WHOLE} 8=u:0;{";".join(cut[:255])} {zeros(2)}'
     yield f'wparams {wrong} {";".join(cut[:256])} {zeros(2)}'
-
-
-def set_packet(data, service=20, subtype=3):
-    return tc(data, sec=(2, 9, service, subtype, 0))
-
-
-def params_packets():
-    """A set request as a packet: of types beside 20, 3; refused before 33 and behind it; and octets behind the packet."""
-    good, wrong = bytes.fromhex('01' + pair_octets(7, 'A5')), '5,3,4;4,3,4'
-    for service, subtype in ((20, 3), (17, 1), (20, 1), (20, 2), (20, 4), (3, 20), (19, 3), (21, 3), (3, 3), (0, 0), (255, 255), (20, 131)):
-        packet = set_packet(good, service, subtype)
-        for listed in (WHOLE, wrong, '-'):
-            yield from (f'setreq {listed} {text(octets)}' for octets in (packet, packet + b'\1', packet[:-1], packet[:-1] + b'\0'))
-    yield from (f'setreq {listed} -' for listed in (WHOLE, wrong, '-'))
-    for data in ('', '00', '01', '0100', '010008', '0002', '01' + pair_octets(7, 'A5') + '00', '02' + pair_octets(7, 'A5')):
-        yield from (f'setreq {WHOLE} {text(set_packet(bytes.fromhex(data), service))}' for service in (20, 17))
-    idle = tc(good, sp=(0, 1, 1, 2047, 3, 5, 0), sec=(2, 9, 17, 1, 0))
-    yield from (f'setreq {listed} {text(idle)}' for listed in (WHOLE, wrong))
-    yield from ('setreq', 'setreq -', 'setreq - ', 'setreq - - -', 'setreq - 0', 'setreq 1,3 -', 'Setreq - -', 'in s1 setreq - -')
 
 
 def wrong_pair(rng, numbers):
@@ -1283,11 +1186,6 @@ def params_line(rng):
         data = data[:rng.randrange(len(data) + 1)]
     if data and rng.random() < 0.3:
         data[rng.randrange(len(data))] = rng.randrange(256)
-    if rng.random() < 0.3:                                 # the same as a packet, now and then of another type or damaged
-        packet = bytearray(set_packet(bytes(data), rng.choice((20, 20, 20, 17)), rng.choice((3, 3, 3, 1))))
-        if rng.random() < 0.1:
-            packet[rng.randrange(len(packet))] ^= 1 << rng.randrange(8)
-        return f'setreq {listed} {text(packet)}'
     return f'params {listed} {text(data)}'
 
 
@@ -1370,7 +1268,9 @@ def profile_verdicts(rng):
         yield f'profile {text(tc(b"", (0, 1, 1, 5, 3, 5, 0), (2, 8, 3, 1, 0), pus_c(spare)))}'
     yield f'profile {text(tm(telemetry(0)))}'
     for at in range(8 * len(within)):                     # each bit changed, and each run of two octets
-        yield f'profile {text(flipped(within, [at]))}'
+        octets = bytearray(within)
+        octets[at // 8] ^= 0x80 >> at % 8
+        yield f'profile {text(octets)}'
     for at in range(len(within) - 1):
         octets = bytearray(within)
         octets[at] ^= rng.randint(1, 255)
@@ -1411,34 +1311,6 @@ def profile_grammar():
         yield f'pbuild {setters} - {zeros(13)}'
 
 
-def flips_requests(rng):
-    """Commands that are accepted, of each edition and spare length; then with one, two or three bits changed, none in octets 4 and 5."""
-    forms = {'': PUS_C} | {f'in c{spare} ': pus_c(spare) for spare in range(1, 5)} | {f'in a{width} ': pus_a(width) for width in (0, 8, 16)}
-    for before, form in forms.items():
-        for total in form.start + 2, form.start + 7, 80, 4095:
-            packet = tc(rng.randbytes(total - form.start - 2), sec=(form.version, 9, 8, 1, 0), form=form)
-            yield f'{before}strict {text(packet)}'
-            for bits in flips(rng, [bit for bit in range(8 * total) if not 32 <= bit < 48]):
-                line = f'{before}strict {text(flipped(packet, bits))}'
-                if not model.answer(line).startswith('err:'):
-                    sys.exit(f'accepted with changed bits: {line}')
-                yield line
-
-
-def flips(rng, bits):
-    """Of a short packet each bit, and pairs and triples of them; of a long one a few."""
-    count = 1 if len(bits) > 8 * 80 else 40
-    yield from ([bit] for bit in (bits if len(bits) < 8 * 20 else rng.sample(bits, count)))
-    yield from (rng.sample(bits, size) for size in (2, 3) for _ in range(count))
-
-
-def flipped(packet, bits):
-    octets = bytearray(packet)
-    for bit in bits:
-        octets[bit // 8] ^= 0x80 >> bit % 8
-    return bytes(octets)
-
-
 def examples_requests(_):
     yield from ('crc -', 'crc 00', 'crc FFFF', 'crc ff', 'verify 1923C00500062F11010000616D 616D',
                 'verify 1923C00500062F11010000616D 0000', 'verify 1923C00500062F11010000616C 0000', 'verify - ABCD', 'verify FF ABCD',
@@ -1451,8 +1323,7 @@ def examples_requests(_):
 FILES = {'examples': examples_requests, 'crc': crc_requests, 'header': header_requests, 'write': write_requests,
          'limits': limits_requests, 'read': read_requests, 'strict': strict_requests, 'grammar': grammar_requests,
          'pus_a': pus_a_requests, 'telemetry': telemetry_requests, 'track': track_requests, 'best': best_requests,
-         'spare': spare_requests, 'params': params_requests, 'profile': profile_requests, 'gaps': gaps_requests,
-         'flips': flips_requests}
+         'spare': spare_requests, 'params': params_requests, 'profile': profile_requests, 'gaps': gaps_requests}
 
 
 def main():
