@@ -4,9 +4,7 @@ use mathlib.Core.Path.{◌≡◌, refl, sym, ap, ◌∙◌, subst}
 use mathlib.Core.Logic.{⊎_elim}
 use mathlib.Core.List.{List, [], ◌∷◌}
 use native.Mathlib.Omega.{arith}
-use denote.Enum.Declared.{tag_of}
 use lib.ListN.{length, take}
-use types.Run.{OneOf}
 use Rattle.space_packet.specs.Answer.{refuses, numbers_of}
 use Rattle.space_packet.specs.declared.PusError.{PusError}
 use Rattle.tc_strict.specs.Verdict.{strict_of}
@@ -43,12 +41,6 @@ turn-stop : (s : List ℕ) (before now : Rows) (t : State) (at : ℕ) (x : Next)
     → ((gaps_of (length before) s).rows ≡ take t.listed now) × ((gaps_of (length before) s).answer ≡ refuses (numbers_of r))
 turn-stop s before now t at end r u h k e m = absurd (let j = ended_is strict_of s at (sym e) in omega arith)
 turn-stop s before now t at (piece p next) r u h k e m = here-stop s before now t at h p next k (sym e) (numbers_of r) m
-
--- in the arm of the other cases
-not-stop : (act : Act) → OneOf (0 ∷ 1 ∷ []) (tag_of Act'.the_type act) → (r : PusError) → act ≡ A.Stop r → ⊥
-not-stop act k r e =
-    let j : OneOf (0 ∷ 1 ∷ []) 2 = subst (λ (a : Act). OneOf (0 ∷ 1 ∷ []) (tag_of Act'.the_type a)) e k in
-    ⊎_elim (λ (x : 2 ≡ 0). omega (arith, x)) (λ (x : 2 ≡ 1). omega (arith, x)) j
 
 -- ---- the loop
 
@@ -96,9 +88,9 @@ module _ {s : List ℕ} {before now after : Rows} {scan : Scan} {at : ℕ} (step
       record { answered = sym q.1; counted = w.0; left = kept e a ∙ w.1 }
 
   -- and without one the loop goes on behind the piece
-  pub goes : (n next : ℕ) → OneOf (0 ∷ 1 ∷ []) (tag_of Act'.the_type turn.act) → Sound turn.scan → next ≡ next_by (step_answer step) n → Stands s before after turn.scan next
+  pub goes : (n next : ℕ) → ((r : PusError) → turn.act ≡ A.Stop r → ⊥) → Sound turn.scan → next ≡ next_by (step_answer step) n → Stands s before after turn.scan next
   goes n next z h e =
-      let g = turn_on s before now (state_of scan) at n (step_answer step) turn.act (state_of turn.scan) here k.inside k.stepped does (not-stop turn.act z) in
+      let g = turn_on s before now (state_of scan) at n (step_answer step) turn.act (state_of turn.scan) here k.inside k.stepped does z in
       record {
         sound = h;
         here = subst (λ (i : ℕ). Here s before after (state_of turn.scan) i) (sym e)

@@ -1,9 +1,9 @@
 -- What a machine's record of pairs holds: each of its values is one of the machine's, and it has 255 places.
 use Prim.Native.Nat.{ℕ, zero, suc}
 use mathlib.Core.Path.{◌≡◌, sym, ◌∙◌, subst}
-use mathlib.Core.List.{List, [], ◌∷◌, map}
+use mathlib.Core.List.{List, [], ◌∷◌}
 use lib.Dec.{T}
-use lib.ListN.{length, take, length-map}
+use lib.ListN.{length, take}
 use mir.Val.{Val}
 use denote.Shadow.{shadow}
 use denote.Laws.{Is}
@@ -28,7 +28,7 @@ value-held (SingleNan b) vs s = s.1.1.1.1.0.1
 value-held (Double x) vs s = subst T (sym s.1.1.1.1.0.1) tt
 value-held (DoubleNan b) vs s = s.1.1.1.1.0.1
 
-pairs-held-by : (ps : List Pair) (us : List Val) → shadow (each (P'.the_field).row.Denot (P'.the_field).row.own_val (map (P'.the_field).into ps) us) → HeldAll ps
+pairs-held-by : (ps : List Pair) (us : List Val) → shadow (each (P'.the_row).Denot (P'.the_row).own_val ps us) → HeldAll ps
 pairs-held-by [] us s = tt
 pairs-held-by (p ∷ ps) [] s = absurd s
 pairs-held-by (p ∷ ps) (u ∷ us) s = (value-held p.value _ s.0.1.1.1.0, pairs-held-by ps us s.1)
@@ -43,4 +43,4 @@ module _ (p : Params) (vs : List Val) (good : Is (row R'.the_type) p vs) where
   values-held = first-held p.count p.pairs (pairs-held-by p.pairs _ good.1.1.0.1.1)
 
   pub places : length p.pairs ≡ 255
-  places = sym (length-map p.pairs _) ∙ good.1.1.0.1.0.1
+  places = good.1.1.0.1.0.1

@@ -1,3 +1,1 @@
 pub mod Anew
-pub mod Reader
-pub mod OneReader

@@ -336,7 +336,7 @@ impl Tracker {
 }
 
 fn taken(tracker: Tracker) -> TrackerSet
-    ensures* { λ r. ⌜ r ≡ record { tracker = tracker; result = CheckResult.Ok } ⌝ }
+    ensures { result ≡ record { tracker = tracker; result = CheckResult.Ok } }
 {
     TrackerSet {
         tracker,
@@ -345,7 +345,7 @@ fn taken(tracker: Tracker) -> TrackerSet
 }
 
 fn refused(tracker: Tracker, e: PusError) -> TrackerSet
-    ensures* { λ r. ⌜ r ≡ record { tracker = tracker; result = CheckResult.Err e } ⌝ }
+    ensures { result ≡ record { tracker = tracker; result = CheckResult.Err e } }
 {
     TrackerSet {
         tracker,

@@ -31,7 +31,7 @@ loop-at-smaller c =
 pub loop-at-preserved : goal.loop-at-preserved
 loop-at-preserved c =
     goes c.step-step.result c.take-turn.result (record { stands = c.loop-at.invariant; inside = c.loop-at-test.true; stepped = c.step-step.ensures; taken = c.take-turn.ensures.result_value; put = c.put.ensures })
-    (length c.args.capture.now) _ c.in_default.keys2 c.take-turn.ensures.sound c.next_of-at.ensures
+    (length c.args.capture.now) _ c.in_default.not-Stop c.take-turn.ensures.sound c.next_of-at.ensures
 
 pub returns : goal.returns
 returns c =

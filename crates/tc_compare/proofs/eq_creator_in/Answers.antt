@@ -29,4 +29,4 @@ returns-else-not-eq-2 c =
     let e = sym c.new_no_checksum_verification_in-read.ensures ∙ ap record_answer c.in-Ok.is in
     let h = rw c.sp_header.ensures at (sym c.eq.ensures ∙ not-false c.eq.result (ap not c.if-not-eq.false)) in
     let x = rw c.sec_header.ensures at (sym c.eq-in-Ok.ensures ∙ not-false c.eq-in-Ok.result (ap not c.if-not-eq-2.false)) in
-    rw c.app_data_in-user.ensures at c.same_octets.ensures ∙ sym (creator-compared _ _ _ _ _ _ _ e h x)
+    rw c.app_data_in-user.ensures.result_value at c.same_octets.ensures ∙ sym (creator-compared _ _ _ _ _ _ _ e h x)

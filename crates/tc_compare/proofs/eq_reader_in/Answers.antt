@@ -15,4 +15,4 @@ returns-then-not-is_read-2 c =
 
 pub returns : goal.returns
 returns c =
-    let e = sym c.is_read.ensures ∙ not-false c.is_read.result (ap not c.if-not-is_read.false) in let f = sym c.is_read-2.ensures ∙ not-false c.is_read-2.result (ap not c.if-not-is_read-2.false) in simp (e, f, c.same_octets.ensures, c.raw_data_in-other_raw.ensures, c.raw_data_in-raw.ensures)
+    let e = sym c.is_read.ensures ∙ not-false c.is_read.result (ap not c.if-not-is_read.false) in let f = sym c.is_read-2.ensures ∙ not-false c.is_read-2.result (ap not c.if-not-is_read-2.false) in simp (e, f, c.same_octets.ensures, c.raw_data_in-other_raw.ensures.result_value, c.raw_data_in-raw.ensures.result_value)

@@ -48,11 +48,11 @@ returns-in-Tail c =
 pub returns-in-Refused : goal.returns-in-Refused
 returns-in-Refused c =
     let s = state_of c.args.self in
-    let g = c.step-in-Packet-1.given.0 in record {
+    let h = c.in-Packet in record {
       result_value =
           ap (λ (x : Scan). on (state_of x)) c.refuse.ensures
           ∙ sym (ap (λ (x : Step). move_by c.args.places s (step_answer x)) c.in-Packet.is
-          ∙ ap (λ (v : Verdict). move_of c.args.places s (packet g.0 g.1.0 (verdict_answer v))) c.in-Refused.is);
+          ∙ ap (λ (v : Verdict). move_of c.args.places s (packet h.at h.total (verdict_answer v))) c.in-Refused.is);
       sound =
           subst Sound (sym c.refuse.ensures) c.requires.0;
     }
@@ -60,12 +60,12 @@ returns-in-Refused c =
 pub returns-in-Accepted : goal.returns-in-Accepted
 returns-in-Accepted c =
     let s = state_of c.args.self in
-    let g = c.step-in-Packet-1.given.0 in record {
+    let h = c.in-Packet in record {
       result_value =
           c.accept.ensures.result_value
-          ∙ ap₂ (λ (a : Apid) (k : SeqCount). command_move c.args.places s g.1.0 (record { apid = a; count = k })) c.apid.ensures c.seq_count.ensures
+          ∙ ap₂ (λ (a : Apid) (k : SeqCount). command_move c.args.places s h.total (record { apid = a; count = k })) c.apid.ensures c.seq_count.ensures
           ∙ sym (ap (λ (x : Step). move_by c.args.places s (step_answer x)) c.in-Packet.is
-          ∙ ap (λ (v : Verdict). move_of c.args.places s (packet g.0 g.1.0 (verdict_answer v))) c.in-Accepted.is);
+          ∙ ap (λ (v : Verdict). move_of c.args.places s (packet h.at h.total (verdict_answer v))) c.in-Accepted.is);
       sound =
           c.accept.ensures.sound;
     }

@@ -16,5 +16,5 @@ returns c =
     let a = c.args in
     let e = sym c.check_time-c.ensures ∙ ap check_answer c.in_default.is in
     c.total_of.ensures
-    ∙ ap (λ c. machine_total k a.self.has_checksum (length a.source_data.now)) c.min_len_without_source_data.ensures
+    ∙ ap (λ k. machine_total k a.self.has_checksum (length a.source_data.now)) c.min_len_without_source_data.ensures
     ∙ sym (gives_then _ _ _ e)

@@ -1,0 +1,12 @@
+-- `protocol_fields::show::chunks` is safe and ends: each turn leaves octets behind.
+use Prim.Native.Nat.{◌-◌}
+use lib.ListN.{length}
+use Rattle.protocol_fields.proofs.show.chunks.Given as goal
+
+abbrev pub invariant-loop-i : goal.invariant-loop-i
+invariant-loop-i l =
+    Unit {0}
+
+abbrev pub decreases-loop-i : goal.decreases-loop-i
+decreases-loop-i l =
+    length l.s - l.i

@@ -1,0 +1,10 @@
+-- `protocol_tc::verdict::pieces` is safe and ends: the measure is the number of turns that are left.
+use Rattle.protocol_tc.proofs.verdict.pieces.Given as goal
+
+abbrev pub invariant-loop-turns : goal.invariant-loop-turns
+invariant-loop-turns l =
+    Unit {0}
+
+abbrev pub decreases-loop-turns : goal.decreases-loop-turns
+decreases-loop-turns l =
+    l.turns
