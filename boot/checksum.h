@@ -1,5 +1,5 @@
 /* The packet error control of ECSS-E-ST-70-41C, annex B, for a boot image: generator x^16 + x^12 + x^5 + 1, preset to all ones,
-   no reflection and no final inversion. In target/staticlib/libboot_checksum.a, for x86-64, which `rt staticlib boot_checksum`
+   no reflection and no final inversion. In crates/boot_checksum/out/libboot_checksum.a, for x86-64, which `rt lib` there
    writes: no table, no stack, no call of another library. */
 #ifndef BOOT_CHECKSUM_H
 #define BOOT_CHECKSUM_H

@@ -1,11 +1,13 @@
-"""What the tools that try wrong programs share: a copy of one crate over what is proved already, and what the prover says there.
+"""What the tools that try wrong programs share: a room, in which one crate may be changed, and what the prover says of it there.
 
-The prover keeps what it has checked of a crate, module by module. The rlib of a proved crate holds these modules, so a copy of the
-crate that begins with them has only those checked again that a change reaches. That the prover finds these is its own matter; a module
-that it kept in error would show as a change that is still proved, or as a twin that is not.
+A room is a repository of its own, away from this one, with copies of a crate and of those below it. Two commands of the kit work in it:
+`rt ci`, which proves the crate with nothing of earlier checks but what a whole run has passed, by the checksums of all that it reads, and
+keeps what it passes in the same way; and `rt check`, which begins with what checks in any checkout on this machine have kept, and says
+of each function whether it is proved.
 """
 import importlib.machinery
 import importlib.util
+import os
 import re
 import resource
 import shutil
@@ -17,6 +19,7 @@ from pathlib import Path
 from typing import NamedTuple
 
 ROOT = Path(__file__).resolve().parent.parent
+PARTS = "src specs proofs".split()
 
 
 def tool(name):
@@ -29,118 +32,88 @@ def tool(name):
 
 calls = tool("calls")
 
-# What an error says of a goal that is not reached. Any other says that the proof's text does not fit the code: a label is not there, a
-# rewrite has no occurrence, a form is not covered. That would befall a right program of that shape too.
-FACT = re.compile(
-    r"`[\w-]+`: (?:as printed, the two|computed as far as they go, the two|expected type|`omega`: the (?:goal|part `\S+` of the goal) does not follow"
-    r"|`search`: no proof of|give a proof of that as the last argument|.*\n  ≟ .*\n  does not hold)"
-)
+# What an error says where a proof's text does not fit the code: a name that it cites is not there. That would befall a right program of
+# that shape too. Any other error of a proof is a goal that is not reached.
+SHAPE = re.compile(r"has no field|is not in scope|has no `|was not admitted")
+
+
+def below(name, listed=None):
+    """The crates of the repository that one stands on, and itself, lowest first."""
+    listed = listed or dict(calls.crates())
+    found = []
+    for dep in listed[name]:
+        if dep in listed:
+            found += [crate for crate in below(dep, listed) if crate not in found]
+    return [*found, name]
 
 
 @contextmanager
 def room(name):
-    """A repository in which only the crate NAME is a copy, with what was checked of it; gone when the work in it is done."""
-    with tempfile.TemporaryDirectory() as place:
-        where = Path(place)
-        (where / "crates").mkdir()
-        for crate in (ROOT / "crates").iterdir():
-            if crate.name != name:
-                (where / "crates" / crate.name).symlink_to(crate)
-        shutil.copytree(ROOT / "crates" / name, where / "crates" / name)
-        shutil.copy(ROOT / "crates.txt", where)
-        (where / "target/log").mkdir(parents=True)
-        for part in ("rlib", "stamp"):
-            (where / "target" / part).symlink_to(ROOT / "target" / part)
-        shutil.copytree(checked(name), kept(name, where))
+    """A repository with copies of one crate and of those below it, and nothing else; gone when the work in it is done."""
+    with tempfile.TemporaryDirectory(prefix="room-") as place:
+        where, wanted = Path(place), below(name)
+        lines = (ROOT / "crates.txt").read_text().splitlines()
+        (where / "crates.txt").write_text("".join(line + "\n" for line in lines if (line.partition(":")[0].split() or [""])[0] in wanted))
+        if (ROOT / "HANDLES").exists():
+            shutil.copy(ROOT / "HANDLES", where)
+        for crate in wanted:
+            for part in PARTS:
+                if (ROOT / "crates" / crate / part).exists():
+                    shutil.copytree(ROOT / "crates" / crate / part, where / "crates" / crate / part)
         yield where
 
 
-def checked(name):
-    """Where the rlib of a proved crate has its checked modules."""
-    return ROOT / "target/rlib" / f"{name}.rlib/toolchain/checked"
-
-
-def kept(name, where):
-    """Where `rt dev` keeps them in a room."""
-    built = re.search(r"^rattle-build (.*)$", (checked(name).parent.parent / "format").read_text(), re.M)[1]
-    return where / "target/inc" / name / built.replace("/", "_")
-
-
-def needs(modules, name, call):
-    """What a function's proof has to answer, by name, as the checked module has it that ties the proof to the code."""
-    tie = modules / f"Rattle·{name}·proofs.proofs.{call.replace('::', '.')}.Tie.oantt"
-    return set(re.findall(r'"spelling":"(Need-[\w-]+)"', tie.read_text(errors="replace"))) if tie.exists() else set()
-
-
 class Said(NamedTuple):
-    """What the prover says of a crate: its exit status, the errors with their files, what is said of each function, the functions with
-    other needs than they had, all that was printed, and the seconds of the clock."""
+    """What the prover says of a crate: whether it is proved, the errors with the files that they stand in, what is said of each function,
+    all that was printed, and the seconds of the clock."""
 
-    status: int
+    proved: bool
     errors: list
     functions: dict
-    unlike: set
     printed: str
     seconds: float
 
-    def proved(self):
-        return self.status == 0 and re.search("^logic=proved", self.printed, re.M)
-
-    def refused(self):
-        return self.status == 1 and re.search("^logic=not-proved", self.printed, re.M)
-
     def of(self, call):
-        """What is said of a function, in a word: proved, refused at a fact or by shape, or unknown, where only a callee is refused. A
-        function that `search` proves by itself, with no proof file, has no text that might not fit: it is refused at a fact where its
-        contract is left open, and at a need where something else is that its body asks."""
+        """What is said of a function, in a word: proved, refused at a fact or by shape, or unknown, where only a callee is refused. What
+        `search` is to find alone has no text that might not fit: it is refused at a fact."""
         said = self.functions.get(call, "")
-        own = [text for path, text in self.errors if path == calls.proof_of(call)]
         if said == "proved":
             return "proved"
-        if own:
-            return "fact" if call not in self.unlike and all(map(FACT.match, own)) else "shape"
-        if "does not close" in said:
-            return "fact" if "`returns" in said else "need"
-        return "unknown" if "it calls" in said else "shape"
-
-    def fact(self):
-        """Whether some goal of the crate is not reached, in a law or in the proof of a function that has the needs that it had."""
-        fits = [text for path, text in self.errors if path.removeprefix("proofs/").removesuffix("/Proof.antt").replace("/", "::") not in self.unlike]
-        return any(map(FACT.match, fits)) or any(self.of(call) in ("fact", "need") for call in self.functions)
+        if "it calls" in said:
+            return "unknown"
+        own = [text for path, text in self.errors if path.startswith(calls.proof_of(call))]
+        return "shape" if not said or own and all(map(SHAPE.search, own)) else "fact"
 
 
-def heard(name, printed, folder):
-    """The errors of a check of the crate NAME in a folder, by their files there, and what it says of each function."""
-    # What was not admitted has its error elsewhere, at a callee's proof even.
-    found = re.findall(rf"{folder}/(\S+?\.antt):[\d:]+ error: (.*(?:\n  ≟ .*\n.*)?)", printed)
-    errors = [(path, text) for path, text in found if "was not admitted" not in text]
-    return errors, dict(re.findall(rf"^fn {name}::([\w:]+): (.*)", printed, re.M))
-
-
-def dev(name, where):
-    """What `rt dev` says of the crate NAME in a room."""
+def told(command, where, **more):
+    """The status of a command of the kit, all that it printed, and the seconds of the clock."""
     began = time.monotonic()
-    run = subprocess.run(["rt", "dev", name], cwd=where, stdout=subprocess.PIPE, stderr=subprocess.STDOUT, text=True)
-    errors, functions = heard(name, run.stdout, f"/crates/{name}")
-    unlike = {call for call in functions if needs(kept(name, where), name, call) != needs(checked(name), name, call)}
-    return Said(run.returncode, errors, functions, unlike, run.stdout, time.monotonic() - began)
+    run = subprocess.run(command, cwd=where, stdin=subprocess.DEVNULL, stdout=subprocess.PIPE, stderr=subprocess.STDOUT, text=True, env={**os.environ, **more})
+    return run.returncode, run.stdout, time.monotonic() - began
 
 
-def told_by_rt(name, edit, texts):
-    """What `rt ci` was told of the crate NAME with an edit of its must-fail/, which makes these texts of its files; None where it has
-    not tried them. The needs are not compared: the checked modules are not kept."""
-    copy = ROOT / "target/must-fail" / name / edit
-    if not (copy / ".log").exists() or any((copy / path).read_text() != text for path, text in texts.items()):
-        return None
-    printed = (copy / ".log").read_text()
-    errors, functions = heard(name, printed, f"/must-fail/{name}/{edit}")
-    return Said(1, errors, functions, set(), printed, 0)
+def check(name, where):
+    """What `rt check` says of the crate NAME in a room."""
+    status, printed, seconds = told(["rt", "check"], where / "crates" / name)
+    errors = re.findall(r"^(?:\./)?(proofs/\S+?\.antt):[\d:]+ error: (.*(?:\n  .*)*)", printed, re.M)
+    functions = dict(re.findall(rf"^fn {name}::([\w:]+): (.*)", printed, re.M))
+    return Said(status == 0, errors, functions, printed, seconds)
+
+
+def passes(name, where):
+    """What `rt ci` says of a room, in which it proves the crate NAME by one job, with the crates below it."""
+    laid, printed, _ = told(["rt", "fmt"], where / "crates" / name)
+    if laid:
+        return Said(False, [], {}, printed, 0)
+    status, printed, seconds = told(["rt", "ci"], where, RT_JOBS="1")
+    whole = re.search(r"^(\d+) passed, 0 failed\n\Z", printed, re.M)
+    return Said(status == 0 and bool(whole), [], {}, printed, seconds)
 
 
 def functions_of(source):
     """Each function below a crate's src/: its name as the prover has it, its file, and the places of its braces."""
     for path in sorted(source.glob("*.rt")):
-        text, module = path.read_text(), "" if path.stem == "lib" else path.stem + "::"
+        text, module = path.read_text(), "" if path.stem in ("lib", "main") else path.stem + "::"
         inside, until = "", 0
         for m in re.finditer(r"^impl(?:<[^>]*>)? (\w+)|^[ \t]*(?:pub(?:\(crate\))? )?(?:extern \"C\" )?fn (\w+)", text, re.M):
             if m.group(1):
