@@ -3,6 +3,7 @@ ghost use Rattle.std.specs.Prelude.{◌≡◌, length};
 
 use crate::requests;
 use protocol_fields::show;
+use std::io::Read;
 
 // How many octets of the buffer are not answered yet, whether the rest of a line that is too long is being passed over, and
 // whether there may be more to read.
@@ -39,13 +40,13 @@ fn lines(s: &[u8], from: usize, a: &mut [u8], b: &mut [u8]) -> usize {
     from
 }
 
-// Reads once after the octets that are held, and answers how many are held then.
-fn fill(fd: i32, buf: &mut [u8], held: usize) -> usize {
+// Reads once after the octets that are held, and answers how many are held then: no more where the read failed.
+fn fill<R: Read>(reader: &mut R, buf: &mut [u8], held: usize) -> usize {
     if buf.len() <= held {
         return held;
     }
-    let got = libc::read(fd, &mut buf[held..]);
-    held + io::count(got, &buf[held..])
+    let got = reader.read(&mut buf[held..]);
+    held + got.unwrap_or(0)
 }
 
 // Moves the octets from `from` up to n to the start, and answers how many there are.
@@ -94,8 +95,8 @@ fn last(s: &[u8], a: &mut [u8], b: &mut [u8]) -> Feed {
 }
 
 // Reads once and answers the lines that are whole.
-fn step(fd: i32, buf: &mut [u8], a: &mut [u8], b: &mut [u8], f: Feed) -> Feed {
-    let n = fill(fd, buf, f.held);
+fn step<R: Read>(reader: &mut R, buf: &mut [u8], a: &mut [u8], b: &mut [u8], f: Feed) -> Feed {
+    let n = fill(reader, buf, f.held);
     let s = text::part(buf, 0, n);
     if n == f.held {
         return last(s, a, b);
@@ -106,7 +107,7 @@ fn step(fd: i32, buf: &mut [u8], a: &mut [u8], b: &mut [u8], f: Feed) -> Feed {
 
 // A proved loop has to end, and nothing says that an input does: it counts its turns down, from a number that no run
 // uses up.
-fn all(fd: i32, buf: &mut [u8], a: &mut [u8], b: &mut [u8]) {
+fn all<R: Read>(reader: &mut R, buf: &mut [u8], a: &mut [u8], b: &mut [u8]) {
     let mut f = Feed {
         held: 0,
         skip: false,
@@ -114,7 +115,7 @@ fn all(fd: i32, buf: &mut [u8], a: &mut [u8], b: &mut [u8]) {
     };
     let mut turns = u64::MAX;
     while turns > 0 && f.more {
-        f = step(fd, buf, a, b, f);
+        f = step(reader, buf, a, b, f);
         turns -= 1;
     }
 }
@@ -126,10 +127,10 @@ fn buffer() -> [u8; 1048576]
     [0; 1048576]
 }
 
-// Answers the lines that fd has, to its end.
-pub(crate) fn run(fd: i32) {
+// Answers the lines that a reader has, to its end.
+pub(crate) fn run<R: Read>(reader: &mut R) {
     let mut buf = buffer();
     let mut a = buffer();
     let mut b = buffer();
-    all(fd, &mut buf, &mut a, &mut b);
+    all(reader, &mut buf, &mut a, &mut b);
 }

@@ -1,42 +1,50 @@
 // Both reports of each capture that an argument names, one after the other.
 #![tactic(auto)]
 
-fn one(i: usize) {
-    let mut path = io::buffer();
-    let n = os::arg(i, &mut path);
-    io::write_all(1, b"== ");
-    io::write_all(1, &path[..n]);
-    io::write_all(1, b"\n");
-    judged(&path[..n]);
-    listed(&path[..n]);
+use std::env::{Env, FillError};
+use std::fs::{self, Files};
+use std::io;
+
+// A file's name, between the reports before and its own.
+fn one<R: Files + Print>(rt: &R, path: &[u8]) -> io::Result<()> {
+    rt.write_all(b"== ")?;
+    rt.write_all(path)?;
+    rt.write_all(b"\n")?;
+    judged(rt, path)?;
+    listed(rt, path)
+}
+
+// The file that a path names, opened to read. A path that is no text names none.
+fn opened<R: Files>(rt: &R, path: &[u8]) -> Option<R::File> {
+    let name = str::from_utf8(path).ok()?;
+    fs::open(rt, name).ok()
 }
 
 // What tcverdict prints of it.
-fn judged(path: &[u8]) {
-    let fd = os::open_read(path);
-    if fd < 0 {
-        io::write_all(1, b"cannot be opened\n");
-        return;
-    }
-    report::run(fd);
-    libc::close(fd);
+fn judged<R: Files + Print>(rt: &R, path: &[u8]) -> io::Result<()> {
+    let Some(mut file) = opened(rt, path) else {
+        return rt.write_all(b"cannot be opened\n");
+    };
+    report::run(&mut file, &mut io::writer(rt))
 }
 
 // And what tcgaps does, of the same opened again.
-fn listed(path: &[u8]) {
-    let fd = os::open_read(path);
-    if fd < 0 {
-        return;
-    }
-    gap_report::run(fd);
-    libc::close(fd);
+fn listed<R: Files + Print>(rt: &R, path: &[u8]) -> io::Result<()> {
+    let Some(mut file) = opened(rt, path) else {
+        return Ok(());
+    };
+    gap_report::run(&mut file, &mut io::writer(rt))
 }
 
-fn main() {
-    let count = os::arg_count();
-    let mut i = 1usize;
-    while i < count {
-        one(i);
-        i += 1;
+// Argument 0 is the program's own name. One that is longer than every path names no file.
+fn main(rt: HostRuntime) -> io::Result<()> {
+    let mut path = [0u8; 4096];
+    for i in 1..usize::MAX {
+        match rt.arg(i, &mut path) {
+            Ok(n) => one(&rt, &path[..n])?,
+            Err(FillError::TooLong) => one(&rt, b"")?,
+            Err(FillError::NotPresent) => break,
+        }
     }
+    Ok(())
 }

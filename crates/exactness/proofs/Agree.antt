@@ -6,7 +6,7 @@ use mathlib.Core.List.{List, [], ◌++◌, append_assoc, append-nil}
 use native.Mathlib.Omega.{arith}
 use lib.ListN.{length, take, drop, length-append}
 use borrow.Author.Tests.{le-ltb}
-use Rattle.space_packet.specs.Answer.{Answer, gives, ◌then◌}
+use Rattle.space_packet.specs.Answer.{Answer, gives}
 use Rattle.space_packet.specs.Header.{header_octets, left_by}
 use Rattle.space_packet.specs.declared.SpacePacketHeader.{SpacePacketHeader}
 use Rattle.space_packet.proofs.Answers.{refuse-no, gives_then, left-written}

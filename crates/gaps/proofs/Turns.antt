@@ -1,7 +1,6 @@
 -- One turn of the loop, in what the code holds.
 use Prim.Native.Nat.{ℕ, ◌+◌, ◌≤◌, ◌<◌}
 use mathlib.Core.Path.{◌≡◌, refl, sym, ap, ◌∙◌, subst}
-use mathlib.Core.Logic.{⊎_elim}
 use mathlib.Core.List.{List, [], ◌∷◌}
 use native.Mathlib.Omega.{arith}
 use lib.ListN.{length, take}
@@ -17,7 +16,6 @@ use Rattle.gaps.specs.declared.Act.TheVariants as A
 use Rattle.gaps.specs.declared.Scan.{Scan}
 use Rattle.gaps.specs.declared.TotalsResult.TheVariants as T
 use Rattle.gaps.specs.declared.Turn.{Turn}
-use Rattle.gaps.specs.contracts.Act as Act'
 use Rattle.gaps.proofs.Walks.{Here, here-begin, here_on, here-lists, here-stop, here_end, here-left}
 
 -- a step goes on, and ends in the capture

@@ -1,44 +1,39 @@
 -- What a read's answer says, and what is printed of an input.
-use Prim.Native.Nat.{ℕ, ◌-◌, ◌^◌, ◌≤◌, ◌<◌}
-use mathlib.Core.Path.{◌≡◌, refl, sym, ap, ◌∙◌, subst}
-use mathlib.Core.Bool.{true, false, true≢false}
+use Prim.Native.Nat.{ℕ, ◌-◌, ◌≤◌}
+use mathlib.Core.Path.{◌≡◌, sym, ap, ◌∙◌, subst}
 use mathlib.Core.List.{List, ◌++◌}
 use native.Mathlib.Omega.{arith}
-use borrow.Author.Tests.{ltb-true}
-use lib.Dec.{T}
-use lib.ListN.{take, drop}
-use lib.IntN.{ℤ, pos, negsuc, nat_abs}
-use lib.Signed.{lt_z, non_neg}
-use mir.Syntax.{w64}
-use mir.Val.{Fits, SFits}
-use Rattle.libc.specs.Io.{Moved}
+use lib.ListN.{length, take, drop}
+use Rattle.std.specs.Prelude.{Result, Ok, Err, IfOk}
+use Rattle.std.specs.Io.{ReadsAtMost}
 use Rattle.text.specs.Ascii.{ascii}
 use Rattle.input.specs.Printing.{printed_by}
 use Rattle.input.specs.Reading.{input_of, Within}
 use Rattle.input.specs.declared.Input.{Input}
 use Rattle.input.specs.declared.Input.TheVariants.{Octets, Failed}
 
-pub failed-is : (z : ℤ) → lt_z z (pos 0) ≡ true → Failed ≡ input_of z
+module _ {E : Type 0} (r : Result ℕ E) where
+  pub failed-is : (e : E) → r ≡ Err e → Failed ≡ input_of r
+  unfolding input_of
+  failed-is e k = ap input_of (sym k)
+
+  pub octets-is : (n : ℕ) → r ≡ Ok n → Octets n ≡ input_of r
+  unfolding input_of
+  octets-is n k = ap input_of (sym k)
+
+within_of : {E : Type 0} (r : Result ℕ E) (most : ℕ) → IfOk r (λ n. n ≤ most) → Within (input_of r) most
 unfolding input_of
-failed-is (negsuc k) e = refl
-failed-is (pos k) e = absurd (let z : k < 0 = ltb-true k 0 e in omega arith)
+within_of (Err e) most h = tt
+within_of (Ok n) most h = h
 
-within_of : (z : ℤ) (most : ℕ) → Moved most z → Within (input_of z) most
+pub within-is : {E : Type 0} (i : Input) (r : Result ℕ E) (most : ℕ) → i ≡ input_of r → IfOk r (λ n. n ≤ most) → Within i most
+within-is i r most e h = subst (λ (x : Input). Within x most) (sym e) (within_of r most h)
+
+-- a read answers no more than the length of the space, which stays
+pub within-space : {E : Type 0} (r : Result ℕ E) (before after : List ℕ) → ReadsAtMost r after → length before ≡ length after → Within (input_of r) (length before)
 unfolding input_of
-within_of (negsuc k) most h = tt
-within_of (pos k) most h = h
-
-pub within-is : (i : Input) (z : ℤ) (most : ℕ) → i ≡ input_of z → Moved most z → Within i most
-within-is i z most e h = subst (λ (x : Input). Within x most) (sym e) (within_of z most h)
-
-pub octets-is : (z : ℤ) → lt_z z (pos 0) ≡ false → Octets (nat_abs z) ≡ input_of z
-unfolding input_of
-octets-is (negsuc k) e = absurd (true≢false e)
-octets-is (pos k) e = refl
-
-pub octets-fit : (z : ℤ) → lt_z z (pos 0) ≡ false → SFits w64 z → T (non_neg z) × Fits w64 (nat_abs z)
-octets-fit (negsuc k) e f = absurd (true≢false e)
-octets-fit (pos k) e f = let h : k < 2 ^ 63 = f.sfits in (tt, record { fits = omega arith })
+within-space (Err e) before after h l = tt
+within-space (Ok n) before after h l = let k = h.0 in omega (arith, k, l)
 
 pub within_more : (i : Input) (few most : ℕ) → few ≤ most → Within i few → Within i most
 within_more (Octets n) few most h w = omega arith

@@ -1,7 +1,9 @@
 -- What a program prints of its input, and how it stands in a buffer.
-use Rattle.std.specs.Prelude.{ℕ, ◌≤◌, ◌≡◌, List, ◌++◌, length, take}
+use Rattle.std.specs.Prelude.{ℕ, ◌≤◌, ◌≡◌, List, ◌++◌, Option, length, take}
+use Rattle.std.specs.Io.KnownBytes.{Appends}
 use Rattle.text.specs.Ascii.{ascii}
 use Rattle.text.specs.Page.{page, at_start}
+use Rattle.input.specs.Reading.{Within}
 use Rattle.input.specs.declared.Input.{Input}
 use Rattle.input.specs.declared.Input.TheVariants.{Octets, Failed}
 
@@ -16,3 +18,12 @@ pub record Rendered (room : ℕ) (t before : List ℕ) (n : ℕ) (after : List �
   pub shown : page after n ≡ at_start before (take (length before) t)
   -- which is all of it where there are `room` octets
   pub whole : length t ≤ room
+
+-- what a program's run does to the octets that its writer holds: behind them it puts what is printed of an input, of which it has
+-- read no more octets than its buffer holds, and nothing else
+pub record Prints (printed : Input → List ℕ → List ℕ) (before after : Option (List ℕ)) : Type 0 where
+  pub input : Input
+  pub buffer : List ℕ
+  pub whole : length buffer ≡ 65537
+  pub within : Within input (length buffer)
+  pub shown : Appends before after (printed input buffer)

@@ -1,10 +1,12 @@
 // An input read to its end, for the programs on a capture.
 #![tactic(auto)]
 
-ghost use Rattle.std.specs.Prelude.{◌≡◌, length};
+ghost use Rattle.std.specs.Prelude.{◌≡◌, ◌↔◌, IsTrue, IsErrAnd, length};
+ghost use Rattle.std.specs.IoError.{error_kind};
 ghost use Rattle.input.specs.Reading.{input_of, Within};
 
-use libc::EINTR;
+use std::io;
+use std::io::{ErrorKind, Read};
 
 // What reading came to: so many octets, none at the end of the input, or that it failed.
 #[derive(Clone, Copy)]
@@ -14,27 +16,28 @@ pub enum Input {
 }
 
 // What the system's answer to a read says. It alone tells of a failure: a read after a failed one may find the end.
-fn told(answer: isize) -> Input
-    ensures { result ≡ input_of answer }
+fn told(answer: &io::Result<usize>) -> Input
+    ensures { result ≡ input_of answer.now }
 {
-    if answer < 0 {
+    let Ok(n) = answer else {
         return Input::Failed;
-    }
-    Input::Octets(answer as usize)
+    };
+    Input::Octets(*n)
 }
 
-fn read_once(fd: i32, space: &mut [u8]) -> Input
-    ensures { Within result (length space.old) }
+fn read_once<R: Read>(reader: &mut R, space: &mut [u8]) -> io::Result<usize>
+    ensures { Within (input_of result) (length space.old) }
 {
-    let answer = libc::read(fd, space);
-    told(answer)
+    reader.read(space)
 }
 
 // Whether a signal interrupted the read that was just made.
-fn interrupted(got: Input) -> bool {
+fn interrupted(got: &io::Result<usize>) -> bool
+    ensures { IsTrue result ↔ IsErrAnd got.now (λ e. error_kind e ≡ ErrorKind.Interrupted) }
+{
     match got {
-        Input::Octets(_) => false,
-        Input::Failed => os::errno() == EINTR,
+        Ok(_) => false,
+        Err(e) => e.kind() == ErrorKind::Interrupted,
     }
 }
 
@@ -42,27 +45,28 @@ fn interrupted(got: Input) -> bool {
 const TRIES: usize = 1000;
 
 // Reads some octets, and tries again where a signal interrupted it.
-fn read_some(fd: i32, space: &mut [u8]) -> Input
+fn read_some<R: Read>(reader: &mut R, space: &mut [u8]) -> Input
     ensures { Within result (length space.old) }
 {
     let mut tries: usize = 1;
     while tries < TRIES {
-        let got = read_once(fd, space);
-        if !interrupted(got) {
-            return got;
+        let got = read_once(reader, space);
+        if !interrupted(&got) {
+            return told(&got);
         }
         tries += 1;
     }
-    read_once(fd, space)
+    let got = read_once(reader, space);
+    told(&got)
 }
 
 // Reads until the input ends, buf is full or a read fails. No contract can say what is read.
-pub fn read_input(fd: i32, buf: &mut [u8]) -> Input
+pub fn read_input<R: Read>(reader: &mut R, buf: &mut [u8]) -> Input
     ensures { Within result (length buf.old) }
 {
     let mut n: usize = 0;
     while n < buf.len() {
-        let got = read_some(fd, &mut buf[n..]);
+        let got = read_some(reader, &mut buf[n..]);
         let Input::Octets(more) = got else {
             return got;
         };

@@ -2,33 +2,33 @@
 #![tactic(auto)]
 
 use ecss::{CreatorConfig, MessageTypeId, PusError};
-use libc::STDOUT_FILENO;
 use space_packet::{Apid, ApidResult, SeqCount, SeqCountResult, SizeResult, SpHeader};
+use std::io;
 use tc_header::{AckFlags, PusTcSecondaryHeader, TcForm};
 use tc_read::PusTcRecord;
 use tc_reserved::{PusTcCreatorWithReservedAppData, ReservedResult};
 use tc_strict::Verdict;
 use tc_write::{PusTcBuilder, PusTcCreator, PusTcCreatorResult};
 
-fn say(text: &[u8]) {
-    io::write_all(STDOUT_FILENO, text);
+fn say(rt: &impl Print, text: &[u8]) -> io::Result<()> {
+    rt.write_all(text)
 }
 
-fn say_number(n: usize) {
-    io::print_decimal(STDOUT_FILENO, n as u64);
+fn say_number(rt: &impl Print, n: usize) -> io::Result<()> {
+    print!(rt; "{n}")
 }
 
-fn say_refusal(e: PusError) {
-    say(b"refused ");
-    say_number(e.number() as usize);
-    say(b"\n");
+fn say_refusal(rt: &impl Print, e: PusError) -> io::Result<()> {
+    say(rt, b"refused ")?;
+    say_number(rt, e.number() as usize)?;
+    say(rt, b"\n")
 }
 
-fn say_octets(octets: &[u8]) {
+fn say_octets(rt: &impl Print, octets: &[u8]) -> io::Result<()> {
     let mut out = [0u8; 64];
     let at = text::put_hex(&mut out, 0, octets);
-    say(text::part(&out, 0, at));
-    say(b"\n");
+    say(rt, text::part(&out, 0, at))?;
+    say(rt, b"\n")
 }
 
 // APID 291 and count 5. The numbers fit, so the defaults are never taken.
@@ -75,94 +75,94 @@ fn by_builder() -> PusTcCreatorResult {
 // ---- written and judged
 
 // The octets that were written, and the verdict on them.
-fn say_written(written: SizeResult, octets: &[u8]) {
+fn say_written(rt: &impl Print, written: SizeResult, octets: &[u8]) -> io::Result<()> {
     match written {
-        SizeResult::Err(e) => say_refusal(e),
+        SizeResult::Err(e) => say_refusal(rt, e),
         SizeResult::Ok(_) => {
-            say_octets(octets);
-            judge(octets);
+            say_octets(rt, octets)?;
+            judge(rt, octets)
         }
     }
 }
 
-fn judge(octets: &[u8]) {
+fn judge(rt: &impl Print, octets: &[u8]) -> io::Result<()> {
     let verdict = tc_strict::judge(octets);
     match verdict {
-        Verdict::Refused(e) => say_refusal(e),
+        Verdict::Refused(e) => say_refusal(rt, e),
         Verdict::Accepted(record) => {
-            say_record(record);
-            say_data(tc_read::app_data(octets, true));
+            say_record(rt, record)?;
+            say_data(rt, tc_read::app_data(octets, true))
         }
     }
 }
 
-fn say_record(record: PusTcRecord) {
+fn say_record(rt: &impl Print, record: PusTcRecord) -> io::Result<()> {
     let apid = record.apid();
     let count = record.seq_count();
-    say(b"accepted: APID ");
-    say_number(apid.value() as usize);
-    say(b", count ");
-    say_number(count.value() as usize);
-    say(b", service ");
-    say_number(record.service_type_id() as usize);
-    say(b", subtype ");
-    say_number(record.message_subtype_id() as usize);
+    say(rt, b"accepted: APID ")?;
+    say_number(rt, apid.value() as usize)?;
+    say(rt, b", count ")?;
+    say_number(rt, count.value() as usize)?;
+    say(rt, b", service ")?;
+    say_number(rt, record.service_type_id() as usize)?;
+    say(rt, b", subtype ")?;
+    say_number(rt, record.message_subtype_id() as usize)
 }
 
-fn say_data(data: &[u8]) {
-    say(b", octets of data ");
-    say_number(data.len());
-    say(b"\n");
+fn say_data(rt: &impl Print, data: &[u8]) -> io::Result<()> {
+    say(rt, b", octets of data ")?;
+    say_number(rt, data.len())?;
+    say(rt, b"\n")
 }
 
-fn write(made: PusTcCreatorResult) {
+fn write(rt: &impl Print, made: PusTcCreatorResult) -> io::Result<()> {
     let mut buf = [0u8; 13];
     let none = [0u8; 0];
     match made {
-        PusTcCreatorResult::Err(e) => say_refusal(e),
+        PusTcCreatorResult::Err(e) => say_refusal(rt, e),
         PusTcCreatorResult::Ok(creator) => {
             let written = creator.write_to_slice(&none, &mut buf);
-            say_written(written, &buf);
+            say_written(rt, written, &buf)
         }
     }
 }
 
-fn reserve() {
+fn reserve(rt: &impl Print) -> io::Result<()> {
     let mut buf = [0u8; 13];
     let held = PusTcCreatorWithReservedAppData::new(&mut buf, header(), second(), 0, true);
     match held {
-        ReservedResult::Err(e) => say_refusal(e),
+        ReservedResult::Err(e) => say_refusal(rt, e),
         ReservedResult::Ok(reservation) => {
             let written = reservation.finalize(&mut buf);
-            say_written(written, &buf);
+            say_written(rt, written, &buf)
         }
     }
 }
 
-fn say_size(r: SizeResult) {
+fn say_size(rt: &impl Print, r: SizeResult) -> io::Result<()> {
     match r {
-        SizeResult::Err(e) => say_refusal(e),
+        SizeResult::Err(e) => say_refusal(rt, e),
         SizeResult::Ok(n) => {
-            say(b"octets ");
-            say_number(n);
-            say(b"\n");
+            say(rt, b"octets ")?;
+            say_number(rt, n)?;
+            say(rt, b"\n")
         }
     }
 }
 
 // Without its checksum, for which there still must be room.
-fn write_no_crc(made: PusTcCreatorResult, buf: &mut [u8]) {
+fn write_no_crc(rt: &impl Print, made: PusTcCreatorResult, buf: &mut [u8]) -> io::Result<()> {
     let none = [0u8; 0];
     match made {
-        PusTcCreatorResult::Err(e) => say_refusal(e),
-        PusTcCreatorResult::Ok(creator) => say_size(creator.write_to_slice_no_crc(&none, buf)),
+        PusTcCreatorResult::Err(e) => say_refusal(rt, e),
+        PusTcCreatorResult::Ok(creator) => say_size(rt, creator.write_to_slice_no_crc(&none, buf)),
     }
 }
 
 // ---- PUS A
 
 // Written and judged in the form that it is made in.
-fn in_form(form: TcForm) {
+fn in_form(rt: &impl Print, form: TcForm) -> io::Result<()> {
     let mut buf = [0u8; 11];
     let none = [0u8; 0];
     let made = PusTcCreator::new_simple_in(
@@ -173,54 +173,54 @@ fn in_form(form: TcForm) {
         CreatorConfig::default(),
     );
     match made {
-        PusTcCreatorResult::Err(e) => say_refusal(e),
+        PusTcCreatorResult::Err(e) => say_refusal(rt, e),
         PusTcCreatorResult::Ok(creator) => {
             creator.write_to_slice(&none, &mut buf);
-            say_octets(&buf);
-            say_verdict(tc_strict::judge_in(form, &buf));
+            say_octets(rt, &buf)?;
+            say_verdict(rt, tc_strict::judge_in(form, &buf))
         }
     }
 }
 
-fn say_verdict(verdict: Verdict) {
+fn say_verdict(rt: &impl Print, verdict: Verdict) -> io::Result<()> {
     match verdict {
-        Verdict::Refused(e) => say_refusal(e),
+        Verdict::Refused(e) => say_refusal(rt, e),
         Verdict::Accepted(record) => {
-            say_record(record);
-            say(b"\n");
+            say_record(rt, record)?;
+            say(rt, b"\n")
         }
     }
 }
 
 // ---- the largest packet
 
-fn say_length(made: PusTcCreatorResult) {
+fn say_length(rt: &impl Print, made: PusTcCreatorResult) -> io::Result<()> {
     match made {
-        PusTcCreatorResult::Err(e) => say_refusal(e),
+        PusTcCreatorResult::Err(e) => say_refusal(rt, e),
         PusTcCreatorResult::Ok(creator) => {
-            say(b"length field ");
-            say_number(creator.data_len() as usize);
-            say(b"\n");
+            say(rt, b"length field ")?;
+            say_number(rt, creator.data_len() as usize)?;
+            say(rt, b"\n")
         }
     }
 }
 
-fn main() {
+fn main(rt: HostRuntime) -> io::Result<()> {
     let none = [0u8; 0];
-    write(by_new(&none));
-    write(by_new_simple());
-    write(by_builder());
-    reserve();
+    write(&rt, by_new(&none))?;
+    write(&rt, by_new_simple())?;
+    write(&rt, by_builder())?;
+    reserve(&rt)?;
     let mut twelve = [0u8; 12];
-    write_no_crc(by_new(&none), &mut twelve);
+    write_no_crc(&rt, by_new(&none), &mut twelve)?;
     let mut thirteen = [255u8; 13];
-    write_no_crc(by_new(&none), &mut thirteen);
-    say_octets(&thirteen);
-    judge(&thirteen);
+    write_no_crc(&rt, by_new(&none), &mut thirteen)?;
+    say_octets(&rt, &thirteen)?;
+    judge(&rt, &thirteen)?;
     let most = [0u8; 65529];
-    say_length(by_new(&most));
+    say_length(&rt, by_new(&most))?;
     let more = [0u8; 65530];
-    say_length(by_new(&more));
-    in_form(TcForm::pus_a(0));
-    in_form(TcForm::pus_a(9));
+    say_length(&rt, by_new(&more))?;
+    in_form(&rt, TcForm::pus_a(0))?;
+    in_form(&rt, TcForm::pus_a(9))
 }

@@ -3,9 +3,9 @@
 #![tactic(auto)]
 
 use ecss::{CreatorConfig, MessageTypeId, PusError};
-use libc::STDOUT_FILENO;
 use space_packet::{Apid, ApidResult, SeqCount, SeqCountResult, SizeResult, SpHeader};
 use stations::Station;
+use std::io;
 use tm_header::PusTmSecondaryHeader;
 use tm_read::PusTmRecord;
 use tm_reserved::{PusTmCreatorWithReservedSourceData, ReservedResult};
@@ -15,25 +15,25 @@ use tm_write::{PusTmCreator, PusTmCreatorResult};
 // The octets of a time field, which the mission fixes.
 const TIME_LEN: u8 = 7;
 
-fn say(text: &[u8]) {
-    io::write_all(STDOUT_FILENO, text);
+fn say(rt: &impl Print, text: &[u8]) -> io::Result<()> {
+    rt.write_all(text)
 }
 
-fn say_number(n: usize) {
-    io::print_decimal(STDOUT_FILENO, n as u64);
+fn say_number(rt: &impl Print, n: usize) -> io::Result<()> {
+    print!(rt; "{n}")
 }
 
-fn say_refusal(e: PusError) {
-    say(b"refused ");
-    say_number(e.number() as usize);
-    say(b"\n");
+fn say_refusal(rt: &impl Print, e: PusError) -> io::Result<()> {
+    say(rt, b"refused ")?;
+    say_number(rt, e.number() as usize)?;
+    say(rt, b"\n")
 }
 
-fn say_octets(octets: &[u8]) {
+fn say_octets(rt: &impl Print, octets: &[u8]) -> io::Result<()> {
     let mut out = [0u8; 64];
     let at = text::put_hex(&mut out, 0, octets);
-    say(text::part(&out, 0, at));
-    say(b"\n");
+    say(rt, text::part(&out, 0, at))?;
+    say(rt, b"\n")
 }
 
 // APID 291 and count 5. The numbers fit, so the defaults are never taken.
@@ -55,79 +55,79 @@ fn second() -> PusTmSecondaryHeader {
 // ---- judged
 
 // The octets that were written, the verdict on them, and that on them as a command.
-fn say_written(written: SizeResult, octets: &[u8]) {
+fn say_written(rt: &impl Print, written: SizeResult, octets: &[u8]) -> io::Result<()> {
     match written {
-        SizeResult::Err(e) => say_refusal(e),
+        SizeResult::Err(e) => say_refusal(rt, e),
         SizeResult::Ok(_) => {
-            say_octets(octets);
-            judge(TIME_LEN, octets);
-            judge_as_command(octets);
+            say_octets(rt, octets)?;
+            judge(rt, TIME_LEN, octets)?;
+            judge_as_command(rt, octets)
         }
     }
 }
 
-fn judge(time_len: u8, octets: &[u8]) {
+fn judge(rt: &impl Print, time_len: u8, octets: &[u8]) -> io::Result<()> {
     let verdict = tm_strict::judge(time_len, octets);
     match verdict {
-        Verdict::Refused(e) => say_refusal(e),
+        Verdict::Refused(e) => say_refusal(rt, e),
         Verdict::Accepted(record) => {
-            say_record(record);
-            say(b"time ");
-            say_octets(tm_read::timestamp(time_len, octets, true));
-            say(b"data ");
-            say_octets(tm_read::source_data(time_len, octets, true));
+            say_record(rt, record)?;
+            say(rt, b"time ")?;
+            say_octets(rt, tm_read::timestamp(time_len, octets, true))?;
+            say(rt, b"data ")?;
+            say_octets(rt, tm_read::source_data(time_len, octets, true))
         }
     }
 }
 
-fn say_record(record: PusTmRecord) {
+fn say_record(rt: &impl Print, record: PusTmRecord) -> io::Result<()> {
     let apid = record.apid();
     let count = record.seq_count();
-    say(b"accepted: APID ");
-    say_number(apid.value() as usize);
-    say(b", count ");
-    say_number(count.value() as usize);
-    say_second(record.sec_header());
+    say(rt, b"accepted: APID ")?;
+    say_number(rt, apid.value() as usize)?;
+    say(rt, b", count ")?;
+    say_number(rt, count.value() as usize)?;
+    say_second(rt, record.sec_header())
 }
 
-fn say_second(x: PusTmSecondaryHeader) {
-    say(b", service ");
-    say_number(x.service_type_id() as usize);
-    say(b", subtype ");
-    say_number(x.message_subtype_id() as usize);
-    say(b", counter ");
-    say_number(x.msg_counter() as usize);
-    say(b", destination ");
-    say_number(x.dest_id() as usize);
-    say(b"\n");
+fn say_second(rt: &impl Print, x: PusTmSecondaryHeader) -> io::Result<()> {
+    say(rt, b", service ")?;
+    say_number(rt, x.service_type_id() as usize)?;
+    say(rt, b", subtype ")?;
+    say_number(rt, x.message_subtype_id() as usize)?;
+    say(rt, b", counter ")?;
+    say_number(rt, x.msg_counter() as usize)?;
+    say(rt, b", destination ")?;
+    say_number(rt, x.dest_id() as usize)?;
+    say(rt, b"\n")
 }
 
-fn judge_as_command(octets: &[u8]) {
+fn judge_as_command(rt: &impl Print, octets: &[u8]) -> io::Result<()> {
     let verdict = tc_strict::judge(octets);
     match verdict {
         tc_strict::Verdict::Refused(e) => {
-            say(b"as a command ");
-            say_refusal(e);
+            say(rt, b"as a command ")?;
+            say_refusal(rt, e)
         }
-        tc_strict::Verdict::Accepted(_) => say(b"as a command accepted\n"),
+        tc_strict::Verdict::Accepted(_) => say(rt, b"as a command accepted\n"),
     }
 }
 
 // ---- captured by two stations
 
-fn handover<'a>(first: &'a [u8], second: &'a [u8]) {
+fn handover<'a>(rt: &impl Print, first: &'a [u8], second: &'a [u8]) -> io::Result<()> {
     let station = stations::best_station(TIME_LEN, first, second);
     match station {
-        Station::First => say(b"first station "),
-        Station::Second => say(b"second station "),
-        Station::Neither(_, _) => say(b"neither station "),
+        Station::First => say(rt, b"first station ")?,
+        Station::Second => say(rt, b"second station ")?,
+        Station::Neither(_, _) => say(rt, b"neither station ")?,
     }
-    say_octets(stations::best(TIME_LEN, first, second));
+    say_octets(rt, stations::best(TIME_LEN, first, second))
 }
 
 // ---- written
 
-fn write(time: &[u8], data: &[u8]) {
+fn write(rt: &impl Print, time: &[u8], data: &[u8]) -> io::Result<()> {
     let mut buf = [0u8; 24];
     let made = PusTmCreator::new(
         TIME_LEN,
@@ -138,17 +138,17 @@ fn write(time: &[u8], data: &[u8]) {
         CreatorConfig::default(),
     );
     match made {
-        PusTmCreatorResult::Err(e) => say_refusal(e),
+        PusTmCreatorResult::Err(e) => say_refusal(rt, e),
         PusTmCreatorResult::Ok(creator) => {
             let written = creator.write_to_slice(time, data, &mut buf);
-            say_written(written, &buf);
+            say_written(rt, written, &buf)?;
             // The first station lost the last octet.
-            handover(text::part(&buf, 0, 23), &buf);
+            handover(rt, text::part(&buf, 0, 23), &buf)
         }
     }
 }
 
-fn reserve(time: &[u8], data: &[u8]) {
+fn reserve(rt: &impl Print, time: &[u8], data: &[u8]) -> io::Result<()> {
     let mut buf = [0u8; 24];
     let held = PusTmCreatorWithReservedSourceData::new(
         TIME_LEN,
@@ -160,21 +160,21 @@ fn reserve(time: &[u8], data: &[u8]) {
         true,
     );
     match held {
-        ReservedResult::Err(e) => say_refusal(e),
+        ReservedResult::Err(e) => say_refusal(rt, e),
         ReservedResult::Ok(reservation) => {
             reservation.fill_source_data(data, &mut buf);
             let written = reservation.finalize(&mut buf);
-            say_written(written, &buf);
+            say_written(rt, written, &buf)
         }
     }
 }
 
-fn main() {
+fn main(rt: HostRuntime) -> io::Result<()> {
     let time = [47u8, 84, 10, 27, 44, 61, 78];
     let data = [10u8, 11];
-    write(&time, &data);
-    reserve(&time, &data);
+    write(&rt, &time, &data)?;
+    reserve(&rt, &time, &data)?;
     // A time of another length than the mission's, and a mission's that is too long.
-    write(&time[1..], &data);
-    judge(17, &data);
+    write(&rt, &time[1..], &data)?;
+    judge(&rt, 17, &data)
 }

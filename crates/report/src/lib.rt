@@ -1,17 +1,19 @@
 // The report of tcverdict: the packets of a capture as the splitter finds them, each with its strict verdict.
 #![tactic(auto)]
 
-ghost use Rattle.std.specs.Prelude.{◌≡◌, ◌≤◌, length, take};
+ghost use Rattle.std.specs.Prelude.{◌≡◌, ◌≤◌, OnOk, length, take};
+ghost use Rattle.std.specs.Io.KnownBytes.{Appends};
 ghost use Rattle.io.specs.Counts.{IsPrefixLen};
 ghost use Rattle.text.specs.Page.{page, laid};
 ghost use Rattle.tc_strict.specs.Verdict.{verdict_answer};
 ghost use Rattle.tc_strict.specs.Split.{step_answer, walk};
-ghost use Rattle.input.specs.Printing.{Rendered};
+ghost use Rattle.input.specs.Printing.{Rendered, Prints};
 ghost use Rattle.report.specs.Report.{two_text, verdict_text, step_text, behind, lines_of, body_text, report_text, room};
 ghost use Rattle.report.specs.Program.{printed};
 
 use input::Input;
-use libc::STDOUT_FILENO;
+use std::io;
+use std::io::{Read, Write};
 use tc_strict::Verdict;
 use tc_strict::split::{Cursor, Step};
 
@@ -148,19 +150,20 @@ fn answer(input: Input, buf: &[u8], out: &mut [u8]) -> usize
 }
 
 // Writes what is printed of an input, and no other text.
-fn print(input: Input, buf: &[u8], shown: &[u8])
+fn print<W: Write>(writer: &mut W, input: Input, buf: &[u8], shown: &[u8]) -> io::Result<()>
     requires { shown.now ≡ printed input buf.now }
+    ensures { OnOk result (Appends (W.contents writer.old) (W.contents writer.new) (printed input buf.now)) }
 {
-    io::write_all(STDOUT_FILENO, shown);
+    writer.write_all(shown)
 }
 
 // Judges what an input holds, up to 65,536 octets of it, and prints the report.
-pub fn run(fd: i32)
-    ensures { result ≡ tt }
+pub fn run<R: Read, W: Write>(reader: &mut R, writer: &mut W) -> io::Result<()>
+    ensures { OnOk result (Prints printed (W.contents writer.old) (W.contents writer.new)) }
 {
     let mut buf = [0u8; 65537];
-    let input = input::read_input(fd, &mut buf);
+    let input = input::read_input(reader, &mut buf);
     let mut out = [0u8; ROOM];
     let n = answer(input, &buf, &mut out);
-    print(input, &buf, &out[..n]);
+    print(writer, input, &buf, &out[..n])
 }

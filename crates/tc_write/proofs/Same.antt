@@ -1,18 +1,16 @@
 -- Creators with their data are the same, by the call, where both are equal and only there.
 use mathlib.Core.Path.{◌≡◌, ap}
-use mathlib.Core.Bool.{Bool, true}
+use mathlib.Core.Bool.{true}
 use mathlib.Core.List.{List}
 use mathlib.Core.Logic.{◌↔◌}
 use Prim.Native.Nat.{ℕ}
 use lib.Dec.{eqb}
 use borrow.Author.Tests.{eqb-true, eq-eqb}
-use Rattle.space_packet.specs.declared.SpacePacketHeader.{SpacePacketHeader}
 use Rattle.space_packet.proofs.Same.{same-header, both, same_number, same_flag}
 use Rattle.ecss.proofs.Octets.{same-octets}
 use Rattle.ecss.specs.Version.{version_number}
 use Rattle.ecss.specs.declared.PusVersion.{PusVersion}
 use Rattle.tc_header.specs.Form.{same_form}
-use Rattle.tc_header.specs.declared.PusTcSecondaryHeader.{PusTcSecondaryHeader}
 use Rattle.tc_header.specs.declared.TcForm.{TcForm}
 use Rattle.ecss.proofs.Versions.{version-told}
 use Rattle.tc_header.proofs.Same.{same-sec}

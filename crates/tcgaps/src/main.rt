@@ -1,6 +1,8 @@
 // Lists the gaps of standard input.
 #![tactic(auto)]
 
-fn main() {
-    gap_report::run(libc::STDIN_FILENO);
+use std::io;
+
+fn main(rt: HostRuntime) -> io::Result<()> {
+    gap_report::run(&mut rt.stdin(), &mut rt.stdout())
 }

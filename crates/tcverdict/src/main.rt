@@ -1,6 +1,8 @@
 // Judges the packets of standard input.
 #![tactic(auto)]
 
-fn main() {
-    report::run(libc::STDIN_FILENO);
+use std::io;
+
+fn main(rt: HostRuntime) -> io::Result<()> {
+    report::run(&mut rt.stdin(), &mut rt.stdout())
 }

@@ -1,11 +1,7 @@
 -- `crc_register::table_from` meets its contract: each turn takes in the octet at i.
 use mathlib.Core.Path.{refl}
-use Prim.Native.Nat.{◌-◌}
 use native.Mathlib.Omega.{arith}
-use borrow.Author.Rules.{rules}
-use lib.ListN.{length}
-use Rattle.crc_register.specs.Crc.{crc_from}
-use Rattle.crc_register.proofs.Linear.{StillMakes, turn, end}
+use Rattle.crc_register.proofs.Linear.{turn, end}
 use Rattle.crc_register.proofs.table_from.Goals as goal
 
 pub loop-i-init : goal.loop-i-init

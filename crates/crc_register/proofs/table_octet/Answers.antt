@@ -1,7 +1,6 @@
 -- `crc_register::table_octet` meets its contract: the high half, then the low half.
 use mathlib.Core.Path.{ap, ◌∙◌}
 use Prim.Native.Nat.{ℕ, ◌%◌}
-use borrow.Author.Rules.{rules}
 use Rattle.crc_register.specs.Crc.{run}
 use Rattle.crc_register.specs.Table.{half_bits}
 use Rattle.crc_register.proofs.Octet.{by-halves}

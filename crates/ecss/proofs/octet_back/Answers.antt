@@ -3,7 +3,6 @@ use mathlib.Core.Path.{refl}
 use native.Mathlib.Omega.{arith}
 use Rattle.crc_register.specs.Crc.{◌⊕◌}
 use Rattle.crc_register.proofs.Octet.{index_of, step-undone}
-use borrow.Author.Rules.{rules}
 use Rattle.ecss.proofs.octet_back.Goals as goal
 
 pub returns : goal.returns

@@ -9,7 +9,6 @@ use Rattle.space_packet.specs.Answer.{refuse_if}
 use Rattle.space_packet.specs.Fields.{type_number, is_idle}
 use Rattle.space_packet.specs.declared.Apid.{Apid}
 use Rattle.ecss.specs.Kind.{pus_rule}
-use borrow.Author.Rules.{rules}
 use Rattle.ecss.proofs.pus_rule.Goals as goal
 
 types : (a b c d : ℕ) (t : Bool) → a ≡ c → b ≡ d → eqb a b ≡ t → eqb c d ≡ t

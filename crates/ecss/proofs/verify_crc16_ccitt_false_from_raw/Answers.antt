@@ -2,7 +2,6 @@
 use mathlib.Core.Path.{ap}
 use lib.Dec.{eqb}
 use Prim.Native.Nat.{ℕ}
-use borrow.Author.Rules.{rules}
 use Rattle.ecss.proofs.verify_crc16_ccitt_false_from_raw.Goals as goal
 
 pub returns : goal.returns

@@ -10,7 +10,6 @@ use Rattle.crc_register.specs.Crc.{crc_of}
 use Rattle.crc_register.proofs.Zeros.{run-lt, crc_of-lt}
 use Rattle.ecss.specs.Frame.{unsealed}
 use Rattle.ecss.proofs.Sealed.{crc-last-two, verified-passes, verified-fails}
-use borrow.Author.Rules.{rules}
 use Rattle.ecss.proofs.verify_crc16_ccitt_false_from_raw_to_pus_error.Goals as goal
 
 pub returns-then-n-lt2 : goal.returns-then-n-lt2

@@ -1,10 +1,7 @@
 -- `ecss_write::copy` meets its contract: the first i octets are the data's, the rest are as they were, and data.len() - i falls.
-use mathlib.Core.Path.{◌≡◌, ◌∙◌}
+use mathlib.Core.Path.{◌∙◌}
 use native.Mathlib.Omega.{arith}
-use borrow.Author.Rules.{rules}
-use Prim.Native.Nat.{◌≤◌, ◌-◌}
-use mathlib.Core.List.{◌++◌}
-use lib.ListN.{length, take, drop, length-set}
+use lib.ListN.{length-set}
 use Rattle.ecss_write.proofs.Parts.{copy_step, copy_done}
 use Rattle.ecss_write.proofs.copy.Goals as goal
 

@@ -4,7 +4,6 @@ use Rattle.space_packet.specs.Answer.{gives, size_answer}
 use Rattle.space_packet.proofs.Answers.{gives_then, refuses-then, then-of}
 use Rattle.ecss_write.specs.Write.{length_field}
 use Rattle.ecss_write.proofs.Totals.{limit-first, limited-most}
-use borrow.Author.Rules.{rules}
 use Rattle.ecss_write.proofs.data_len_field.Goals as goal
 
 pub field_of-requires : goal.field_of-requires

@@ -5,7 +5,6 @@ use lib.ListN.{length, drop}
 use Rattle.space_packet.proofs.Answers.{left-refused, left-written}
 use Rattle.space_packet.specs.Answer.{size_answer}
 use Rattle.ecss_write.proofs.Totals.{in-buffer-is}
-use borrow.Author.Rules.{rules}
 use Rattle.ecss_write.proofs.fill.Goals as goal
 
 pub copy-requires : goal.copy-requires

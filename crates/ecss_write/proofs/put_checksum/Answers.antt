@@ -6,7 +6,6 @@ use lib.ListN.{take, length-set}
 use Rattle.space_packet.specs.Bits.{be16}
 use Rattle.crc_register.specs.Crc.{crc_of}
 use Rattle.ecss.specs.Frame.{sealed}
-use borrow.Author.Rules.{rules}
 use Rattle.ecss_write.proofs.put_checksum.Goals as goal
 
 pub bounds-buf-end-2 : goal.bounds-buf-end-2

@@ -3,7 +3,6 @@ use mathlib.Core.Path.{sym, ap, ◌∙◌}
 use Rattle.space_packet.proofs.Answers.{gives_then, refuses-then}
 use Rattle.space_packet.specs.Answer.{size_answer}
 use Rattle.ecss_write.specs.Write.{write_in}
-use borrow.Author.Rules.{rules}
 use Rattle.ecss_write.proofs.room_for.Goals as goal
 
 pub returns-in-Err : goal.returns-in-Err

@@ -5,7 +5,6 @@ use Rattle.space_packet.proofs.Answers.{left-refused, left-written}
 use Rattle.space_packet.specs.Answer.{size_answer}
 use Rattle.ecss_write.proofs.Totals.{write-total}
 use Rattle.ecss_write.proofs.Parts.{seal-left}
-use borrow.Author.Rules.{rules}
 use Rattle.ecss_write.proofs.seal.Goals as goal
 
 pub overflow_sub-total : goal.overflow_sub-total

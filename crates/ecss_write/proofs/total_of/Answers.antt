@@ -6,7 +6,6 @@ use borrow.Author.Tests.{lt-ltb}
 use Rattle.space_packet.proofs.Answers.{refuse-yes}
 use Rattle.ecss_write.specs.Write.{total_for, machine_total}
 use Rattle.ecss_write.proofs.Totals.{trailer-le, total-length}
-use borrow.Author.Rules.{rules}
 use Rattle.ecss_write.proofs.total_of.Goals as goal
 
 pub overflow_sub-most : goal.overflow_sub-most

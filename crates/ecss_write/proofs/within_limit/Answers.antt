@@ -3,7 +3,6 @@ use mathlib.Core.Path.{sym, ap, ◌∙◌}
 use borrow.Author.Tests.{lt-ltb, le-ltb}
 use Rattle.space_packet.specs.Answer.{size_answer}
 use Rattle.space_packet.proofs.Answers.{refuse-no, refuse-yes, gives_then, refuses-then}
-use borrow.Author.Rules.{rules}
 use Rattle.ecss_write.proofs.within_limit.Goals as goal
 
 pub returns-then-total-gt-MAX_TOTAL : goal.returns-then-total-gt-MAX_TOTAL

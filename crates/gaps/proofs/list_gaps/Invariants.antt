@@ -1,10 +1,7 @@
 -- `gaps::list_gaps` meets its contract: each turn takes the piece at `at`, and lists its gap.
 use Prim.Native.Nat.{◌-◌}
-use native.Mathlib.Omega.{arith}
 use lib.ListN.{length}
-use Rattle.tc_strict.specs.Split.{step_answer}
-use Rattle.gaps.proofs.Turns.{Stands, begins, ends, step-on, kept-length, stops, goes, further}
-use borrow.Author.Rules.{rules}
+use Rattle.gaps.proofs.Turns.{Stands}
 use Rattle.gaps.proofs.list_gaps.Given as goal
 
 abbrev pub invariant-loop-at : goal.invariant-loop-at

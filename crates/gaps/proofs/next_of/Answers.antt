@@ -3,7 +3,6 @@ use mathlib.Core.Path.{sym, ap}
 use Rattle.tc_strict.specs.Split.{step_answer}
 use Rattle.gaps.specs.Gaps.{next_by}
 use Rattle.tc_strict.specs.declared.split.Step.{Step}
-use borrow.Author.Rules.{rules}
 use Rattle.gaps.proofs.next_of.Goals as goal
 
 pub returns-in-Packet : goal.returns-in-Packet

@@ -3,7 +3,6 @@ use mathlib.Core.Path.{sym, ap, ◌∙◌}
 use lib.Seq.{set_out}
 use Rattle.gaps.specs.Gaps.{put_by}
 use Rattle.gaps.specs.declared.Act.{Act}
-use borrow.Author.Rules.{rules}
 use Rattle.gaps.proofs.put.Goals as goal
 
 pub returns-then-at-list : goal.returns-then-at-list

@@ -1,7 +1,6 @@
 use mathlib.Core.Path.{sym, ap, ◌∙◌}
 use mathlib.Core.Bool.{not}
 use Rattle.space_packet.proofs.Answers.{refuse-no, refuse-yes}
-use borrow.Author.Rules.{rules}
 use Rattle.param_value.proofs.double_nan_bits.Goals as goal
 
 pub returns-then-is_nan64 : goal.returns-then-is_nan64

@@ -3,7 +3,6 @@ use mathlib.Core.Bool.{Bool, ◌&&◌}
 use lib.Dec.{eqb}
 use borrow.Author.Tests.{eq-eqb, ne_eqb}
 use Rattle.param_value.specs.Values.{kind_is}
-use borrow.Author.Rules.{rules}
 use Rattle.param_value.proofs.kind_is.Goals as goal
 
 pub returns-in-Unsigned : goal.returns-in-Unsigned

@@ -2,7 +2,6 @@ use Prim.Native.Nat.{ℕ}
 use mathlib.Core.Path.{sym, ap, ◌∙◌}
 use borrow.Author.Tests.{ne_eqb}
 use Rattle.param_value.specs.Values.{octets_for}
-use borrow.Author.Rules.{rules}
 use Rattle.param_value.proofs.octets_for.Goals as goal
 
 pub returns-in-3 : goal.returns-in-3

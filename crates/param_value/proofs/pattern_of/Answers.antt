@@ -3,7 +3,6 @@ use mir.Syntax.{w64}
 use mir.Facts.{to_z-of_z}
 use Prim.Native.Nat.{ℕ}
 use mathlib.Core.Path.{sym, ap, ap₂, ◌∙◌}
-use borrow.Author.Tests.{not-true, not-false}
 use Rattle.param_value.specs.declared.Value.TheVariants.{Unsigned}
 use Rattle.param_value.specs.Values.{bits_in, signed_bits}
 use Rattle.param_value.proofs.Types.{octets-le, named_by, pattern-none, pattern-other, pattern-by}

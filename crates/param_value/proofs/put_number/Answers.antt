@@ -1,10 +1,8 @@
 use Prim.Native.Nat.{◌-◌, ◌≤◌, ◌<◌}
 use mathlib.Core.Path.{◌≡◌, refl, sym, ◌∙◌}
-use mathlib.Core.List.{◌++◌}
 use native.Mathlib.Omega.{arith}
-use lib.ListN.{length, drop, length-set}
+use lib.ListN.{length, length-set}
 use borrow.Author.Rules.{rules}
-use Rattle.param_value.specs.Octets.{octets_of}
 use Rattle.param_value.proofs.Numbers.{write-begin, write_step, write-end}
 use Rattle.param_value.proofs.put_number.Goals as goal
 

@@ -7,7 +7,6 @@ use lib.ListN.{length, take, drop}
 use lib.Seq.{length-take-le}
 use Rattle.space_packet.proofs.Answers.{no_room, has_room, left-refused, left-written}
 use Rattle.param_value.specs.Octets.{octets_of}
-use borrow.Author.Rules.{rules}
 use Rattle.param_value.proofs.put_pattern.Goals as goal
 
 pub returns-then-buf-octets : goal.returns-then-buf-octets

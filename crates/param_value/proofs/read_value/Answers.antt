@@ -9,7 +9,6 @@ use Rattle.param_value.specs.Octets.{number_of}
 use Rattle.param_value.specs.Values.{value_of}
 use Rattle.param_value.proofs.Types.{octets-le, named_by}
 use Rattle.param_value.proofs.Calls.{octets-take, number_lt, read_none, read_short, read-gives}
-use borrow.Author.Rules.{rules}
 use Rattle.param_value.proofs.read_value.Goals as goal
 
 pub returns-then-octets-eq0 : goal.returns-then-octets-eq0

@@ -1,5 +1,4 @@
 use Rattle.param_value.proofs.Signs.{low-is, high_is}
-use borrow.Author.Rules.{rules}
 use Rattle.param_value.proofs.signed.Goals as goal
 
 pub returns-then-bits-most : goal.returns-then-bits-most

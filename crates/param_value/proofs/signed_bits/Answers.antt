@@ -4,7 +4,6 @@ use native.Mathlib.Omega.{arith}
 use Rattle.space_packet.specs.Answer.{gives}
 use Rattle.param_value.specs.Values.{signed_bits}
 use Rattle.param_value.proofs.Signs.{below_by, above-by, half_over, half-under, back_low, back-high, over-low, over-high}
-use borrow.Author.Rules.{rules}
 use Rattle.param_value.proofs.signed_bits.Goals as goal
 
 pub overflow_cast-m : goal.overflow_cast-m

@@ -1,7 +1,6 @@
 -- `param_value::single_from` meets its contract: the single of a pattern of 32 bits, or no value.
 use mathlib.Core.Path.{sym, ◌∙◌}
 use Rattle.param_value.proofs.From.{single-within, single-over}
-use borrow.Author.Rules.{rules}
 use Rattle.param_value.proofs.single_from.Goals as goal
 
 pub returns-then-bits-lt4294967296 : goal.returns-then-bits-lt4294967296

@@ -1,6 +1,5 @@
 use mathlib.Core.Path.{sym, ◌∙◌}
 use Rattle.param_value.proofs.Reals.{not_yet}
-use borrow.Author.Rules.{rules}
 use Rattle.param_value.proofs.single_of.Goals as goal
 
 pub returns-then-is_nan32 : goal.returns-then-is_nan32

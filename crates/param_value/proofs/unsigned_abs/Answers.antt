@@ -4,7 +4,6 @@ use native.Mathlib.Omega.{arith}
 use native.Mathlib.Numerals.{add-one}
 use Rattle.param_value.specs.Values.{unsigned_abs}
 use Rattle.param_value.proofs.Signs.{below_by, above-by}
-use borrow.Author.Rules.{rules}
 use Rattle.param_value.proofs.unsigned_abs.Goals as goal
 
 pub overflow_cast-result : goal.overflow_cast-result

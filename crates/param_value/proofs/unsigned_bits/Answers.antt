@@ -5,7 +5,6 @@ use native.Mathlib.Omega.{arith}
 use borrow.Author.Tests.{lt-ltb, le-ltb}
 use Rattle.space_packet.proofs.Answers.{refuse-no, refuse-yes}
 use Rattle.param_value.proofs.Powers.{some}
-use borrow.Author.Rules.{rules}
 use Rattle.param_value.proofs.unsigned_bits.Goals as goal
 
 pub returns-then-largest-n : goal.returns-then-largest-n

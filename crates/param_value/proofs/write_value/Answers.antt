@@ -2,7 +2,6 @@
 use mathlib.Core.Path.{sym, ap, ◌∙◌}
 use Rattle.param_value.specs.Values.{pattern_answer}
 use Rattle.param_value.proofs.Calls.{octets-refused, octets-given, wrote-refused, wrote-sized}
-use borrow.Author.Rules.{rules}
 use Rattle.param_value.proofs.write_value.Goals as goal
 
 pub returns-in-Err : goal.returns-in-Err

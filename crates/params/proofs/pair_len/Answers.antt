@@ -7,7 +7,6 @@ use Rattle.param_value.specs.Values.{pattern_of, pattern_answer}
 use Rattle.param_value.proofs.Types.{octets-le}
 use Rattle.params.specs.Parameters.{Row, ptc_of, pfc_of, octets_by}
 use Rattle.params.proofs.WriteLaws.{length-refused, pair-refused, pair-given}
-use borrow.Author.Rules.{rules}
 use Rattle.params.proofs.pair_len.Goals as goal
 
 pub overflow_add-result : goal.overflow_add-result

@@ -6,8 +6,7 @@ use lib.ListN.{length, length-set}
 use Rattle.param_value.specs.Octets.{given_by}
 use Rattle.param_value.proofs.Types.{octets-le}
 use Rattle.params.specs.Parameters.{ptc_of, pfc_of, octets_by}
-use Rattle.params.proofs.WriteLaws.{pair-length, pair_left, pair_same}
-use borrow.Author.Rules.{rules}
+use Rattle.params.proofs.WriteLaws.{pair-length, pair_left}
 use Rattle.params.proofs.put_pair.Goals as goal
 
 pub bounds-part-0 : goal.bounds-part-0

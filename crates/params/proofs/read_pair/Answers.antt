@@ -14,7 +14,6 @@ use Rattle.param_value.proofs.Types.{octets-le}
 use Rattle.params.specs.Parameters.{Row, ptc_of, pfc_of, octets_by, row_of}
 use Rattle.params.proofs.ReadLaws.{tail-is, id-short, id-unknown, value-short, pair_read}
 use Rattle.params.specs.Request.{octets_in}
-use borrow.Author.Rules.{rules}
 use Rattle.params.proofs.read_pair.Goals as goal
 
 record Here (l : List Row) (d : List ℕ) (at octets : ℕ) (read : ValueResult) : Type 0 where

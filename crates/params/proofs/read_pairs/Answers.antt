@@ -1,11 +1,9 @@
 -- `params::read_pairs` meets its contract: each turn reads one pair more.
-use Prim.Native.Nat.{◌-◌}
 use mathlib.Core.Path.{sym, ap, ◌∙◌}
 use native.Mathlib.Omega.{arith}
 use Rattle.space_packet.specs.declared.CheckResult.TheVariants as C
 use Rattle.params.specs.Request.{found_answer}
-use Rattle.params.proofs.ReadLaws.{Reading, reading_begins, reading-on, reading-refused, reading-left, reading-done, reading-held, kept-refused, kept_read}
-use borrow.Author.Rules.{rules}
+use Rattle.params.proofs.ReadLaws.{reading_begins, reading-on, reading-refused, reading-left, reading-done, reading-held, kept-refused, kept_read}
 use Rattle.params.proofs.read_pairs.Goals as goal
 
 pub loop-i-init : goal.loop-i-init

@@ -1,7 +1,6 @@
 -- `params::refused` meets its contract: the refusal, and no pairs.
 use mathlib.Core.Path.{ap}
 use Rattle.space_packet.specs.declared.CheckResult.TheVariants as C
-use borrow.Author.Rules.{rules}
 use Rattle.params.proofs.refused.Goals as goal
 
 pub returns : goal.returns

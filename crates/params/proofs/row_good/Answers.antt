@@ -7,7 +7,6 @@ use lib.ListN.{drop, get_or}
 use borrow.Author.Tests.{eq-eqb, ne_eqb}
 use Rattle.params.specs.Parameters.{below, octets_by}
 use Rattle.params.proofs.Lists.{below_next, below_last}
-use borrow.Author.Rules.{rules}
 use Rattle.params.proofs.row_good.Goals as goal
 
 pub returns-then-octets_for-eq0 : goal.returns-then-octets_for-eq0

@@ -1,11 +1,8 @@
 -- `params::row_of` meets its contract: the search from the place i on finds what it finds in the whole.
 use Prim.Native.Nat.{◌-◌, ◌≤◌}
-use mathlib.Core.Path.{◌≡◌, refl, sym, ◌∙◌}
-use native.Mathlib.Omega.{arith}
+use mathlib.Core.Path.{◌≡◌}
 use lib.ListN.{length, drop}
 use Rattle.params.specs.Parameters.{row_of}
-use Rattle.params.proofs.Lists.{row_here, row_on, row-end}
-use borrow.Author.Rules.{rules}
 use Rattle.params.proofs.row_of.Given as goal
 
 abbrev pub invariant-loop-i : goal.invariant-loop-i

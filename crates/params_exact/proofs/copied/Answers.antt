@@ -1,9 +1,6 @@
 -- `params_exact::copied` meets its contract: the pairs that were read are written as the data stood.
-use mathlib.Core.Path.{ap, ◌∙◌}
 use native.Mathlib.Omega.{arith}
 use Rattle.ecss.specs.Frame.{Octets}
-use Rattle.params.specs.Request.{pairs_of}
-use Rattle.params_exact.proofs.Inverse.{written_read}
 use Rattle.params_exact.proofs.Calls.{record-written}
 use Rattle.params_exact.proofs.copied.Goals as goal
 

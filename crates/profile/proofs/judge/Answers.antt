@@ -4,7 +4,6 @@ use Rattle.space_packet.specs.Answer.{check_answer}
 use Rattle.space_packet.proofs.Answers.{gives_then, refuses-then}
 use Rattle.tc_strict.specs.Verdict.{verdict_answer}
 use Rattle.profile.specs.Rules.{profile_rule, profile_of}
-use borrow.Author.Rules.{rules}
 use Rattle.profile.proofs.judge.Goals as goal
 
 pub returns-in-Refused : goal.returns-in-Refused

@@ -3,7 +3,6 @@ use mathlib.Core.Path.{sym, ap, ap₂, ◌∙◌}
 use Rattle.space_packet.specs.Answer.{check_answer}
 use Rattle.space_packet.proofs.Answers.{gives_then, refuses-then}
 use Rattle.profile.specs.Rules.{profile_rule}
-use borrow.Author.Rules.{rules}
 use Rattle.profile.proofs.within.Goals as goal
 
 pub returns-in-Err : goal.returns-in-Err

@@ -2,7 +2,6 @@
 use native.Mathlib.Omega.{arith}
 use mathlib.Core.Path.{sym}
 use lib.ListN.{get_or-eq_default}
-use borrow.Author.Rules.{rules}
 use Rattle.space_packet.proofs.octet_at.Goals as goal
 
 pub returns-then-s-at : goal.returns-then-s-at

@@ -4,7 +4,6 @@ use mathlib.Core.List.{◌++◌}
 use lib.ListN.{length-set}
 use lib.Seq.{sets-eq}
 use Rattle.space_packet.specs.Bits.{be16}
-use borrow.Author.Rules.{rules}
 use Rattle.space_packet.proofs.put_words.Goals as goal
 
 pub bounds-buf-1 : goal.bounds-buf-1

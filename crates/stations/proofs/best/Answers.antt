@@ -2,7 +2,6 @@
 use mathlib.Core.Path.{sym, ap, ◌∙◌}
 use Rattle.stations.specs.Best.{station_answer}
 use Rattle.stations.proofs.Choices.{place_is, first_part, second-part, neither-part}
-use borrow.Author.Rules.{rules}
 use Rattle.stations.proofs.best.Goals as goal
 
 pub returns-in-First : goal.returns-in-First

@@ -2,7 +2,6 @@
 use mathlib.Core.Path.{sym, ap, ◌∙◌}
 use Rattle.tm_strict.specs.Verdict.{verdict_answer}
 use Rattle.stations.proofs.Choices.{choose-by, choose-first}
-use borrow.Author.Rules.{rules}
 use Rattle.stations.proofs.best_station.Goals as goal
 
 pub returns-in-Accepted : goal.returns-in-Accepted

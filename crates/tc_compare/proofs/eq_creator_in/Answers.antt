@@ -4,7 +4,6 @@ use Rattle.tc_compare.proofs.Compared.{creator-compared}
 use mathlib.Core.Path.{refl, sym, ap, ◌∙◌}
 use borrow.Author.Tests.{not-true, not-false}
 use Rattle.tc_read.specs.Read.{record_answer}
-use borrow.Author.Rules.{rules}
 use Rattle.tc_compare.proofs.eq_creator_in.Goals as goal
 
 pub returns-then-not-eq : goal.returns-then-not-eq

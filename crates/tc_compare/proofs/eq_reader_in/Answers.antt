@@ -2,7 +2,6 @@
 use mathlib.Core.Bool.{not}
 use mathlib.Core.Path.{ap, sym, ◌∙◌}
 use borrow.Author.Tests.{not-true, not-false}
-use borrow.Author.Rules.{rules}
 use Rattle.tc_compare.proofs.eq_reader_in.Goals as goal
 
 pub returns-then-not-is_read : goal.returns-then-not-is_read

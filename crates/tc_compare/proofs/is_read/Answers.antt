@@ -2,7 +2,6 @@
 use mathlib.Core.Path.{sym, ap, ◌∙◌}
 use Rattle.tc_read.specs.Read.{record_answer}
 use Rattle.ecss.specs.Frame.{was_read}
-use borrow.Author.Rules.{rules}
 use Rattle.tc_compare.proofs.is_read.Goals as goal
 
 pub returns-in-Err : goal.returns-in-Err

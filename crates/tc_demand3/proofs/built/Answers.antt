@@ -19,7 +19,6 @@ use Rattle.tc_write.specs.declared.PusTcCreator.{PusTcCreator}
 use Rattle.tc_write.proofs.Command.{writer-laws}
 use Rattle.tc_strict.specs.declared.Verdict.{Verdict}
 use Rattle.tc_demand3.specs.Rules.{Telecommand, Accepts}
-use borrow.Author.Rules.{rules}
 use Rattle.tc_demand3.proofs.built.Goals as goal
 
 built-given : (f : TcForm) → form_check f ≡ gives tt → (p : Telecommand) (b : Bool) → b ≡ true → Handed (tc f) p

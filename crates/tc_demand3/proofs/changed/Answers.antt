@@ -1,7 +1,6 @@
 -- `tc_demand3::changed` meets its contract: both verdicts are the strict one, of which theorems 5 and 9 speak.
 use Rattle.exactness.proofs.Demand3.{both-answered}
 use Rattle.tc_demand3.proofs.Demand3.{changed-refused, up-to-three-refused}
-use borrow.Author.Rules.{rules}
 use Rattle.tc_demand3.proofs.changed.Goals as goal
 
 pub returns : goal.returns

@@ -8,7 +8,6 @@ use Rattle.tc_header.specs.Header.{tc}
 use Rattle.tc_read.specs.declared.PusTcRecord.{PusTcRecord}
 use Rattle.tc_demand3.specs.Rules.{reportFor}
 use Rattle.tc_demand3.proofs.Demand3.{exact}
-use borrow.Author.Rules.{rules}
 use Rattle.tc_demand3.proofs.judged.Goals as goal
 
 pub returns : goal.returns

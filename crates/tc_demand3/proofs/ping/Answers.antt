@@ -3,7 +3,6 @@ use mathlib.Core.Path.{sym, ap, ◌∙◌}
 use Rattle.space_packet.proofs.Answers.{gives-inj, never}
 use Rattle.tc_write.specs.Creator.{creator_answer}
 use Rattle.tc_demand3.proofs.Pinged.{ping-made, ping-wrote}
-use borrow.Author.Rules.{rules}
 use Rattle.tc_demand3.proofs.ping.Goals as goal
 
 pub returns-in-Err : goal.returns-in-Err

@@ -1,5 +1,4 @@
 -- `ping_builder` meets its contract: each setter by its own.
-use borrow.Author.Rules.{rules}
 use Rattle.tc_demand3.proofs.Pinged.{by-setters}
 use Rattle.tc_demand3.proofs.ping_builder.Goals as goal
 

@@ -23,7 +23,6 @@ use Rattle.tc_read.specs.Read.{start_in}
 use Rattle.tc_strict.specs.Verdict.{strict_in}
 use Rattle.tc_demand3.specs.Rules.{Telecommand, reportFor}
 use Rattle.tc_demand3.proofs.Demand3.{reserved-accepted}
-use borrow.Author.Rules.{rules}
 use Rattle.tc_demand3.proofs.reserved.Goals as goal
 
 accepted : (f : TcForm) (good : form_check f ≡ gives tt) (p : Telecommand) (before : List ℕ) → Handed (tc f) p → Room (tc f) p.user before

@@ -11,7 +11,6 @@ use Rattle.tc_write.specs.Creator.{creator_in, PacketWrote}
 use Rattle.tc_write.specs.declared.PusTcCreator.{PusTcCreator}
 use Rattle.tc_strict.specs.Verdict.{strict_in}
 use Rattle.tc_demand3.proofs.Demand3.{written-accepted}
-use borrow.Author.Rules.{rules}
 use Rattle.tc_demand3.proofs.written.Goals as goal
 
 in-form : (f g : TcForm) (s : List ℕ) → f ≡ g → strict_in f s ≡ strict_in g s

@@ -1,11 +1,8 @@
 -- `tc_header::all_zero` meets its contract: what is left from i on is all zeros just where the whole is, and i rises to the end.
 use Prim.Native.Nat.{◌-◌, ◌≤◌}
-use mathlib.Core.Path.{◌≡◌, refl, ◌∙◌}
-use native.Mathlib.Omega.{arith}
+use mathlib.Core.Path.{◌≡◌}
 use lib.ListN.{length, drop}
 use Rattle.tc_header.specs.Form.{all_zero}
-use Rattle.tc_header.proofs.Spares.{zero-step, zero-stop, zero-end}
-use borrow.Author.Rules.{rules}
 use Rattle.tc_header.proofs.all_zero.Given as goal
 
 abbrev pub invariant-loop-i : goal.invariant-loop-i

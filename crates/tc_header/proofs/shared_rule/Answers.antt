@@ -5,7 +5,6 @@ use mathlib.Core.List.{[]}
 use Rattle.space_packet.specs.Answer.{refusal}
 use Rattle.space_packet.specs.declared.PacketType.TheVariants.{Tc}
 use Rattle.ecss.specs.Kind.{pus_rule}
-use borrow.Author.Rules.{rules}
 use Rattle.tc_header.proofs.shared_rule.Goals as goal
 
 pub returns : goal.returns

@@ -2,7 +2,6 @@
 use mathlib.Core.Path.{ap₂, ◌∙◌}
 use Rattle.space_packet.specs.Answer.{Passed, ◌then◌}
 use Rattle.ecss.specs.Kind.{strict_rule}
-use borrow.Author.Rules.{rules}
 use Rattle.tc_header.proofs.strict_rule.Goals as goal
 
 pub returns : goal.returns

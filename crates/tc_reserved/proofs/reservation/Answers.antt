@@ -2,7 +2,6 @@
 use mathlib.Core.Path.{sym, ap}
 use Rattle.space_packet.specs.Answer.{size_answer}
 use Rattle.space_packet.proofs.Answers.{gives_then, refuses-then}
-use borrow.Author.Rules.{rules}
 use Rattle.tc_reserved.proofs.reservation.Goals as goal
 
 pub returns-in-Err : goal.returns-in-Err

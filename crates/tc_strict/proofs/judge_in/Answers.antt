@@ -4,7 +4,6 @@ use Rattle.space_packet.specs.Answer.{check_answer}
 use Rattle.space_packet.proofs.Answers.{gives_then, refuses-then}
 use Rattle.tc_read.specs.Read.{record_answer}
 use Rattle.tc_strict.proofs.Verdicts.{verdict-refused, verdict-ruled}
-use borrow.Author.Rules.{rules}
 use Rattle.tc_strict.proofs.judge_in.Goals as goal
 
 pub returns-in-Err : goal.returns-in-Err

@@ -2,7 +2,6 @@
 use Prim.Native.Nat.{ℕ}
 use mathlib.Core.Path.{ap, ◌∙◌}
 use Rattle.ecss.specs.Kind.{secondary_of}
-use borrow.Author.Rules.{rules}
 use Rattle.tc_strict.proofs.sec_header_part.Goals as goal
 
 pub returns : goal.returns

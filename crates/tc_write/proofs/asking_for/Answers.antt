@@ -2,7 +2,6 @@
 use mathlib.Core.Path.{◌∙◌, ap}
 use Rattle.tc_header.specs.Header.{with_flag}
 use Rattle.tc_header.specs.declared.AckFlags.{AckFlags}
-use borrow.Author.Rules.{rules}
 use Rattle.tc_write.proofs.asking_for.Goals as goal
 
 pub returns : goal.returns

@@ -1,5 +1,4 @@
 -- `tc_write::asks` meets its contract: what the three checks answer.
-use borrow.Author.Rules.{rules}
 use Rattle.tc_write.proofs.asks.Goals as goal
 
 pub returns : goal.returns

@@ -1,7 +1,6 @@
 -- `tc_write::simple` meets its contract: the fields as they are handed in, and the version that the form answers.
 use mathlib.Core.Path.{ap}
 use Rattle.tc_header.specs.Header.{sec_from}
-use borrow.Author.Rules.{rules}
 use Rattle.tc_write.proofs.simple.Goals as goal
 
 pub returns : goal.returns

@@ -1,10 +1,7 @@
 -- `text::are_pairs` meets its contract: each turn takes the two digits at i.
-use Prim.Native.Nat.{◌-◌}
 use mathlib.Core.Path.{refl}
 use native.Mathlib.Omega.{arith}
-use lib.ListN.{length}
-use Rattle.text.specs.Digits.{are_pairs}
-use Rattle.text.proofs.Laws.{Paired, pairs-again, pairs-no, pairs-yes}
+use Rattle.text.proofs.Laws.{pairs-again, pairs-no, pairs-yes}
 use Rattle.text.proofs.are_pairs.Goals as goal
 
 pub loop-i-init : goal.loop-i-init

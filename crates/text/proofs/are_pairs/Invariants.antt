@@ -1,10 +1,8 @@
 -- `text::are_pairs` meets its contract: each turn takes the two digits at i.
 use Prim.Native.Nat.{◌-◌}
-use mathlib.Core.Path.{refl}
-use native.Mathlib.Omega.{arith}
 use lib.ListN.{length}
 use Rattle.text.specs.Digits.{are_pairs}
-use Rattle.text.proofs.Laws.{Paired, pairs-again, pairs-no, pairs-yes}
+use Rattle.text.proofs.Laws.{Paired}
 use Rattle.text.proofs.are_pairs.Given as goal
 
 abbrev pub invariant-loop-i : goal.invariant-loop-i

@@ -1,11 +1,8 @@
 -- `text::decode` meets its contract: each turn lays the octet of the two digits at i.
-use Prim.Native.Nat.{◌-◌}
-use mathlib.Core.Path.{◌≡◌, refl, ap, ◌∙◌}
+use mathlib.Core.Path.{refl, ap, ◌∙◌}
 use native.Mathlib.Omega.{arith}
-use lib.ListN.{length}
-use Rattle.text.specs.Digits.{pair_octets}
-use Rattle.text.specs.Page.{page, placed, laid}
-use Rattle.text.proofs.Laws.{Pairs, pair-octet, pair-laid, pair_end}
+use Rattle.text.specs.Page.{placed}
+use Rattle.text.proofs.Laws.{pair-octet, pair-laid, pair_end}
 use Rattle.text.proofs.decode.Goals as goal
 
 pub loop-i-init : goal.loop-i-init

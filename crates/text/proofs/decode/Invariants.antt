@@ -1,11 +1,10 @@
 -- `text::decode` meets its contract: each turn lays the octet of the two digits at i.
 use Prim.Native.Nat.{◌-◌}
-use mathlib.Core.Path.{◌≡◌, refl, ap, ◌∙◌}
-use native.Mathlib.Omega.{arith}
+use mathlib.Core.Path.{◌≡◌}
 use lib.ListN.{length}
 use Rattle.text.specs.Digits.{pair_octets}
-use Rattle.text.specs.Page.{page, placed, laid}
-use Rattle.text.proofs.Laws.{Pairs, pair-octet, pair-laid, pair_end}
+use Rattle.text.specs.Page.{page, laid}
+use Rattle.text.proofs.Laws.{Pairs}
 use Rattle.text.proofs.decode.Given as goal
 
 abbrev pub invariant-loop-i : goal.invariant-loop-i

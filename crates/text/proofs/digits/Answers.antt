@@ -1,11 +1,8 @@
 -- `text::digits` meets its contract: each turn takes the digit at i.
-use Prim.Native.Nat.{◌-◌}
 use mathlib.Core.Path.{refl, sym, ap, ◌∙◌}
 use native.Mathlib.Omega.{arith}
-use borrow.Author.Rules.{rules}
-use lib.ListN.{length}
 use Rattle.text.specs.Digits.{with_digit, and_then, number_from}
-use Rattle.text.proofs.Laws.{StillGives, here, on, end}
+use Rattle.text.proofs.Laws.{here, on, end}
 use Rattle.text.proofs.digits.Goals as goal
 
 pub loop-i-init : goal.loop-i-init

@@ -1,7 +1,6 @@
 -- `text::hex_glyph` meets its contract, case by case.
 use borrow.Author.Tests.{lt-ltb, le-ltb}
 use Rattle.text.specs.Digits.{hex_glyph}
-use borrow.Author.Rules.{rules}
 use Rattle.text.proofs.hex_glyph.Goals as goal
 
 pub returns-then-d-lt10 : goal.returns-then-d-lt10

@@ -1,7 +1,6 @@
 -- `text::hex_value` meets its contract, case by case.
 use borrow.Author.Tests.{lt-ltb, le-ltb}
 use Rattle.text.specs.Digits.{hex_value}
-use borrow.Author.Rules.{rules}
 use Rattle.text.proofs.hex_value.Goals as goal
 
 pub returns-then-c-lt48 : goal.returns-then-c-lt48

@@ -1,7 +1,6 @@
 -- `text::number` meets its contract, case by case.
 use borrow.Author.Tests.{eq-eqb, ne_eqb, lt-ltb, le-ltb}
 use Rattle.text.specs.Digits.{number_of}
-use borrow.Author.Rules.{rules}
 use Rattle.text.proofs.number.Goals as goal
 
 pub returns-then-s-eq0 : goal.returns-then-s-eq0

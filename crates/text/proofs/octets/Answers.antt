@@ -6,7 +6,6 @@ use Rattle.text.specs.Digits.{pair_octets}
 use Rattle.text.specs.Page.{filled, octets_of}
 use Rattle.text.proofs.Laws.{pair-octets-length}
 use Rattle.text.proofs.Pages.{laid-room}
-use borrow.Author.Rules.{rules}
 use Rattle.text.proofs.octets.Goals as goal
 
 pub returns-then-s-eq0 : goal.returns-then-s-eq0

@@ -2,7 +2,6 @@
 use native.Mathlib.Omega.{arith}
 use borrow.Author.Tests.{lt-ltb, le-ltb}
 use Rattle.text.specs.Digits.{hex_value, pair_value}
-use borrow.Author.Rules.{rules}
 use Rattle.text.proofs.pair.Goals as goal
 
 pub returns-then-a-gt15 : goal.returns-then-a-gt15

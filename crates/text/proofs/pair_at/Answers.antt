@@ -2,7 +2,6 @@
 use mathlib.Core.Path.{◌∙◌}
 use native.Mathlib.Omega.{arith}
 use Rattle.text.proofs.Laws.{pair-none, pair-short, pair-full}
-use borrow.Author.Rules.{rules}
 use Rattle.text.proofs.pair_at.Goals as goal
 
 pub returns-then-s-at : goal.returns-then-s-at

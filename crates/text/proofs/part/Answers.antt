@@ -1,6 +1,5 @@
 -- `text::part` meets its contract: past the end, empty, to the end, and within.
 use Rattle.text.proofs.Laws.{part-past, part-empty, part-rest}
-use borrow.Author.Rules.{rules}
 use Rattle.text.proofs.part.Goals as goal
 
 pub returns-then-s-a : goal.returns-then-s-a

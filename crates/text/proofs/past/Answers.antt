@@ -1,6 +1,5 @@
 -- `text::past` meets its contract: past the separator, or at the end.
 use Rattle.text.proofs.Laws.{past-found, past_end}
-use borrow.Author.Rules.{rules}
 use Rattle.text.proofs.past.Goals as goal
 
 pub returns-then-e-s : goal.returns-then-e-s

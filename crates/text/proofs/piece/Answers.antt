@@ -1,6 +1,5 @@
 -- `text::piece` meets its contract: from its start to the next separator.
 use Rattle.text.proofs.Laws.{piece_cut}
-use borrow.Author.Rules.{rules}
 use Rattle.text.proofs.piece.Goals as goal
 
 pub returns : goal.returns

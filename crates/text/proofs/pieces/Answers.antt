@@ -1,11 +1,8 @@
 -- `text::pieces` meets its contract: each turn counts the character at i.
-use Prim.Native.Nat.{ℕ, ◌+◌, ◌-◌}
 use mathlib.Core.Path.{refl}
-use mathlib.Core.List.{List}
 use native.Mathlib.Omega.{arith}
-use lib.ListN.{length}
 use Rattle.text.specs.Pieces.{count_of}
-use Rattle.text.proofs.Laws.{StillGives, here, on, end, count-le}
+use Rattle.text.proofs.Laws.{here, on, end, count-le}
 use Rattle.text.proofs.pieces.Goals as goal
 
 pub loop-i-init : goal.loop-i-init

@@ -1,11 +1,9 @@
 -- `text::pieces` meets its contract: each turn counts the character at i.
 use Prim.Native.Nat.{ℕ, ◌+◌, ◌-◌}
-use mathlib.Core.Path.{refl}
 use mathlib.Core.List.{List}
-use native.Mathlib.Omega.{arith}
 use lib.ListN.{length}
 use Rattle.text.specs.Pieces.{count_of}
-use Rattle.text.proofs.Laws.{StillGives, here, on, end, count-le}
+use Rattle.text.proofs.Laws.{StillGives}
 use Rattle.text.proofs.pieces.Given as goal
 
 abbrev pub invariant-loop-i : goal.invariant-loop-i

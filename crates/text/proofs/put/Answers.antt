@@ -1,7 +1,6 @@
 -- `text::put` meets its contract: with room or with none.
 use borrow.Author.Tests.{lt-ltb, le-ltb}
 use Rattle.text.specs.Page.{placed}
-use borrow.Author.Rules.{rules}
 use Rattle.text.proofs.put.Goals as goal
 
 pub returns-then-at-out : goal.returns-then-at-out

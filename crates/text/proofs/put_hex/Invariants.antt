@@ -1,12 +1,11 @@
 -- `text::put_hex` meets its contract: each turn lays the octet at i.
 use Prim.Native.Nat.{ℕ, ◌-◌}
-use mathlib.Core.Path.{◌≡◌, refl, sym, ap}
+use mathlib.Core.Path.{◌≡◌}
 use mathlib.Core.List.{List}
-use native.Mathlib.Omega.{arith}
 use lib.ListN.{length}
 use Rattle.text.specs.Digits.{hex_text}
 use Rattle.text.specs.Page.{Page, page, laid}
-use Rattle.text.proofs.Laws.{StillGives, on, end}
+use Rattle.text.proofs.Laws.{StillGives}
 use Rattle.text.proofs.put_hex.Given as goal
 
 abbrev pub invariant-loop-i : goal.invariant-loop-i

@@ -1,6 +1,5 @@
 -- `text::put_octet` meets its contract: the two digits, one after the other.
 use Rattle.text.specs.Page.{laid}
-use borrow.Author.Rules.{rules}
 use Rattle.text.proofs.put_octet.Goals as goal
 
 pub returns : goal.returns

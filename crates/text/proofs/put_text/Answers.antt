@@ -1,10 +1,8 @@
 -- `text::put_text` meets its contract: each turn lays the character at i.
-use Prim.Native.Nat.{◌-◌}
-use mathlib.Core.Path.{◌≡◌, refl, sym, ap}
+use mathlib.Core.Path.{refl, sym, ap}
 use native.Mathlib.Omega.{arith}
-use lib.ListN.{length}
-use Rattle.text.specs.Page.{Page, page, laid}
-use Rattle.text.proofs.Laws.{StillGives, on, end}
+use Rattle.text.specs.Page.{Page, laid}
+use Rattle.text.proofs.Laws.{on, end}
 use Rattle.text.proofs.put_text.Goals as goal
 
 pub loop-i-init : goal.loop-i-init

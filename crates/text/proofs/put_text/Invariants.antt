@@ -1,10 +1,9 @@
 -- `text::put_text` meets its contract: each turn lays the character at i.
 use Prim.Native.Nat.{◌-◌}
-use mathlib.Core.Path.{◌≡◌, refl, sym, ap}
-use native.Mathlib.Omega.{arith}
+use mathlib.Core.Path.{◌≡◌}
 use lib.ListN.{length}
-use Rattle.text.specs.Page.{Page, page, laid}
-use Rattle.text.proofs.Laws.{StillGives, on, end}
+use Rattle.text.specs.Page.{page, laid}
+use Rattle.text.proofs.Laws.{StillGives}
 use Rattle.text.proofs.put_text.Given as goal
 
 abbrev pub invariant-loop-i : goal.invariant-loop-i

@@ -1,7 +1,6 @@
 -- `text::put_word` meets its contract: the two octets, one after the other.
 use Rattle.text.specs.Digits.{hex_text}
 use Rattle.text.proofs.Pages.{and_then}
-use borrow.Author.Rules.{rules}
 use Rattle.text.proofs.put_word.Goals as goal
 
 pub returns : goal.returns

@@ -1,12 +1,9 @@
 -- `text::seek` meets its contract: each turn leaves a character that is not b behind.
 use Prim.Native.Nat.{ℕ, ◌+◌, ◌-◌}
-use mathlib.Core.Path.{refl}
 use mathlib.Core.List.{List}
-use native.Mathlib.Omega.{arith}
-use borrow.Author.Tests.{eq-eqb, ne_eqb}
 use lib.ListN.{length, drop}
 use Rattle.text.specs.Pieces.{gap}
-use Rattle.text.proofs.Laws.{StillGives, here, on, end}
+use Rattle.text.proofs.Laws.{StillGives}
 use Rattle.text.proofs.seek.Given as goal
 
 abbrev pub invariant-loop-i : goal.invariant-loop-i

@@ -1,8 +1,6 @@
 -- `text::start` meets its contract: each turn leaves a piece behind.
-use mathlib.Core.Path.{◌≡◌, refl}
+use mathlib.Core.Path.{refl}
 use native.Mathlib.Omega.{arith}
-use lib.ListN.{drop}
-use Rattle.text.specs.Pieces.{piece_of}
 use Rattle.text.proofs.Laws.{piece-on, piece-end}
 use Rattle.text.proofs.start.Goals as goal
 

@@ -1,9 +1,7 @@
 -- `text::start` meets its contract: each turn leaves a piece behind.
-use mathlib.Core.Path.{◌≡◌, refl}
-use native.Mathlib.Omega.{arith}
+use mathlib.Core.Path.{◌≡◌}
 use lib.ListN.{drop}
 use Rattle.text.specs.Pieces.{piece_of}
-use Rattle.text.proofs.Laws.{piece-on, piece-end}
 use Rattle.text.proofs.start.Given as goal
 
 abbrev pub invariant-loop-n : goal.invariant-loop-n

@@ -3,7 +3,6 @@ use Prim.Native.Nat.{◌+◌, ◌*◌}
 use native.Mathlib.Omega.{arith}
 use borrow.Author.Tests.{lt-ltb, le-ltb}
 use Rattle.text.specs.Digits.{with_digit}
-use borrow.Author.Rules.{rules}
 use Rattle.text.proofs.with_digit.Goals as goal
 
 pub returns-then-d-gt9 : goal.returns-then-d-gt9

@@ -3,7 +3,6 @@ use native.Mathlib.Omega.{arith}
 use borrow.Author.Tests.{eq-eqb, ne_eqb, lt-ltb, le-ltb}
 use lib.ListN.{drop}
 use Rattle.text.specs.Digits.{pair_of, word_of}
-use borrow.Author.Rules.{rules}
 use Rattle.text.proofs.word.Goals as goal
 
 pub returns-then-s-ne4 : goal.returns-then-s-ne4

@@ -20,7 +20,6 @@ use Rattle.tm_write.specs.declared.PusTmCreator.{PusTmCreator}
 use Rattle.tm_strict.specs.declared.Verdict.{Verdict}
 use Rattle.tm_demand3.specs.Rules.{Telemetry, Accepts}
 use Rattle.tm_demand3.proofs.Demand3.{laws}
-use borrow.Author.Rules.{rules}
 use Rattle.tm_demand3.proofs.built.Goals as goal
 
 abbrev Judged : List ℕ → List ℕ → List ℕ → Verdict → PusTmCreator → Type 0

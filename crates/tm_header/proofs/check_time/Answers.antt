@@ -5,7 +5,6 @@ use Rattle.space_packet.specs.Answer.{check_answer}
 use Rattle.space_packet.proofs.Answers.{refuses-then}
 use Rattle.tm_header.specs.Header.{time_check}
 use Rattle.tm_header.proofs.Checks.{limit-passes, time-passes, time-refused}
-use borrow.Author.Rules.{rules}
 use Rattle.tm_header.proofs.check_time.Goals as goal
 
 pub returns-in_default : goal.returns-in_default

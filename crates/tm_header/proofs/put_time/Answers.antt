@@ -1,6 +1,5 @@
 -- `tm_header::put_time` meets its contract: the time has room behind seven octets, so it fills that part from its start.
 use Rattle.ecss_write.proofs.Written.{fill-left}
-use borrow.Author.Rules.{rules}
 use Rattle.tm_header.proofs.put_time.Goals as goal
 
 pub returns : goal.returns

@@ -3,7 +3,6 @@ use Prim.Native.Nat.{ℕ}
 use mathlib.Core.Path.{ap₂, ◌∙◌}
 use Rattle.space_packet.specs.Answer.{Passed}
 use Rattle.ecss.specs.Frame.{frame_after, raw_part}
-use borrow.Author.Rules.{rules}
 use Rattle.tm_read.proofs.raw_data.Goals as goal
 
 pub returns : goal.returns

@@ -4,7 +4,6 @@ use mathlib.Core.Path.{ap₂, ◌∙◌}
 use Rattle.space_packet.specs.Answer.{Passed}
 use Rattle.space_packet.specs.Part.{beyond}
 use Rattle.ecss.specs.Frame.{frame_after, data_part, data_at}
-use borrow.Author.Rules.{rules}
 use Rattle.tm_read.proofs.source_data.Goals as goal
 
 pub returns : goal.returns

@@ -12,7 +12,6 @@ use Rattle.ecss.proofs.After.{frame_found, frame-given}
 use Rattle.tm_header.specs.Header.{time_of}
 use Rattle.tm_read.specs.Read.{time_part}
 use Rattle.tm_read.proofs.Records.{time-room}
-use borrow.Author.Rules.{rules}
 use Rattle.tm_read.proofs.timestamp.Goals as goal
 
 begins-at : {x z : Answer ℕ} (p : Address) (n : ℕ) → x ≡ z → beyond (data_at n x) p ≡ beyond (data_at n z) p

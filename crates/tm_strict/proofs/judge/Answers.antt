@@ -4,7 +4,6 @@ use Rattle.space_packet.specs.Answer.{check_answer}
 use Rattle.space_packet.proofs.Answers.{gives_then, refuses-then}
 use Rattle.tm_read.specs.Read.{record_answer}
 use Rattle.tm_strict.proofs.Verdicts.{verdict-refused, verdict-ruled}
-use borrow.Author.Rules.{rules}
 use Rattle.tm_strict.proofs.judge.Goals as goal
 
 pub returns-in-Err : goal.returns-in-Err

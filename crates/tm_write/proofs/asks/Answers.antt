@@ -1,5 +1,4 @@
 -- `tm_write::asks` meets its contract: what the three checks answer.
-use borrow.Author.Rules.{rules}
 use Rattle.tm_write.proofs.asks.Goals as goal
 
 pub returns : goal.returns

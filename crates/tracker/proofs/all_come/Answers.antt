@@ -1,6 +1,5 @@
 -- `tracker::all_come` meets its contract: no where completion is asked for, else by the count.
 use borrow.Author.Tests.{eq-eqb, ne_eqb}
-use borrow.Author.Rules.{rules}
 use Rattle.tracker.proofs.all_come.Goals as goal
 
 pub returns-then-asked-eq1 : goal.returns-then-asked-eq1

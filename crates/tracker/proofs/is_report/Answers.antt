@@ -1,7 +1,6 @@
 -- `tracker::is_report` meets its contract: the service, the subtype within its range, the length of the data.
 use native.Mathlib.Omega.{arith}
 use borrow.Author.Tests.{eq-eqb, ne_eqb, le-leb, lt-leb}
-use borrow.Author.Rules.{rules}
 use Rattle.tracker.proofs.is_report.Goals as goal
 
 pub returns-then-service-ne1 : goal.returns-then-service-ne1

@@ -1,6 +1,5 @@
 -- `crc::Digest::update` meets its contract: the register after the octets, by the table, in a digest.
 use mathlib.Core.Path.{ap}
-use borrow.Author.Rules.{rules}
 use Rattle.crc.proofs.Parts.{holding}
 use Rattle.crc.proofs.Digest.update.Goals as goal
 

@@ -1,6 +1,5 @@
 -- `crc::Digest::update_no_table` meets its contract: the register after the octets, with no table, in a digest.
 use mathlib.Core.Path.{ap}
-use borrow.Author.Rules.{rules}
 use Rattle.crc.proofs.Parts.{holding}
 use Rattle.crc.proofs.Digest.update_no_table.Goals as goal
 

@@ -1,13 +1,9 @@
 -- `crc_fold::folded::by_four` meets its contract: each turn takes in the 32 octets from i on.
-use mathlib.Core.Path.{refl, ap, ◌∙◌}
 use Prim.Native.Nat.{◌-◌}
-use native.Mathlib.Omega.{arith}
 use lib.ListN.{length, drop}
-use borrow.Author.Rules.{rules}
 use Rattle.crc_register.specs.Crc.{crc_from}
 use Rattle.crc_fold.specs.Word.{Left}
 use Rattle.crc_fold.specs.Folded.{octs4}
-use Rattle.crc_fold.proofs.Rows.{along, same}
 use Rattle.crc_fold.proofs.folded.by_four.Given as goal
 
 abbrev pub invariant-loop-i : goal.invariant-loop-i

@@ -1,13 +1,9 @@
 -- `crc_fold::folded::by_sixteen` meets its contract: each turn takes in the 128 octets from i on.
-use mathlib.Core.Path.{refl, sym, ap, ◌∙◌}
 use Prim.Native.Nat.{◌-◌}
-use native.Mathlib.Omega.{arith}
-use lib.ListN.{length, take, drop}
-use borrow.Author.Rules.{rules}
+use lib.ListN.{length}
 use Rattle.crc_register.specs.Crc.{crc_from}
 use Rattle.crc_fold.specs.Word.{Left}
-use Rattle.crc_fold.specs.Folded.{lows4, lows16}
-use Rattle.crc_fold.proofs.Rows.{start, along, same, in-turn, quarters}
+use Rattle.crc_fold.specs.Folded.{lows16}
 use Rattle.crc_fold.proofs.folded.by_sixteen.Given as goal
 
 abbrev pub invariant-loop-i : goal.invariant-loop-i

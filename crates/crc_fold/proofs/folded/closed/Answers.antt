@@ -1,5 +1,4 @@
 -- `crc_fold::folded::closed` meets its contract: the four words are taken in one after the other.
-use borrow.Author.Rules.{rules}
 use Rattle.crc_fold.specs.Word.{octs}
 use Rattle.crc_fold.specs.Folded.{octs4}
 use Rattle.crc_fold.proofs.Rows.{in-turn}

@@ -1,6 +1,5 @@
 -- `crc_fold::folded::down` meets its contract: the four rows, turned, are taken in one after the other.
 use mathlib.Core.Path.{ap, ◌∙◌}
-use borrow.Author.Rules.{rules}
 use Rattle.crc_register.specs.Crc.{crc_from}
 use Rattle.crc_fold.specs.Folded.{lows4, lows16}
 use Rattle.crc_fold.proofs.Rows.{in-turn}

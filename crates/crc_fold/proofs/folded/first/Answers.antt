@@ -1,7 +1,6 @@
 -- `crc_fold::folded::first` meets its contract: a register stands for two octets, and these are added to the first word.
 use mathlib.Core.Path.{refl, sym, ap, ◌∙◌}
 use native.Mathlib.Omega.{arith}
-use borrow.Author.Rules.{rules}
 use Rattle.crc_register.specs.Crc.{◌⊕◌, crc_from}
 use Rattle.crc_fold.specs.Word.{lows}
 use Rattle.crc_fold.specs.Folded.{lows4}

@@ -1,5 +1,4 @@
 -- `crc_fold::folded::fold_four` meets its contract: the four words are folded in one after the other.
-use borrow.Author.Rules.{rules}
 use Rattle.crc_register.specs.Crc.{crc_from}
 use Rattle.crc_fold.specs.Word.{octs}
 use Rattle.crc_fold.specs.Folded.{octs4}

@@ -1,5 +1,4 @@
 -- `crc_fold::folded::fold_four_rows` meets its contract: 64 octets from i on, and 64 more.
-use borrow.Author.Rules.{rules}
 use Rattle.crc_register.specs.Crc.{crc_from}
 use Rattle.crc_fold.specs.Folded.{lows16}
 use Rattle.crc_fold.proofs.Rows.{twice}

@@ -1,6 +1,5 @@
 -- `crc_fold::folded::fold_two_rows` meets its contract: 32 octets from i on, and 32 more.
 use mathlib.Core.Path.{ap, ◌∙◌}
-use borrow.Author.Rules.{rules}
 use Rattle.crc_register.specs.Crc.{crc_from}
 use Rattle.crc_fold.specs.Folded.{lows16}
 use Rattle.crc_fold.proofs.Rows.{twice}

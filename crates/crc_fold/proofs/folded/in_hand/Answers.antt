@@ -1,7 +1,6 @@
 -- `crc_fold::folded::in_hand` meets its contract: below 256 octets the first 32 are taken in, else it is `by_sixteen`.
 use mathlib.Core.Path.{ap, ◌∙◌}
 use native.Mathlib.Omega.{arith}
-use borrow.Author.Rules.{rules}
 use Rattle.crc_register.specs.Crc.{crc_from}
 use Rattle.crc_fold.proofs.Rows.{start, along}
 use Rattle.crc_fold.proofs.folded.in_hand.Goals as goal

@@ -1,6 +1,5 @@
 -- `crc_fold::folded::low_four_at` meets its contract: 32 octets are four times eight, and each word is read by `low_at`.
 use mathlib.Core.Path.{sym, ◌∙◌}
-use borrow.Author.Rules.{rules}
 use Rattle.crc_fold.specs.Folded.{lows4}
 use Rattle.crc_fold.proofs.Rows.{four-alike, quarters}
 use Rattle.crc_fold.proofs.folded.low_four_at.Goals as goal

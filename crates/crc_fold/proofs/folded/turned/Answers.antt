@@ -1,5 +1,4 @@
 -- `crc_fold::folded::turned` meets its contract: each of the four words is swapped.
-use borrow.Author.Rules.{rules}
 use Rattle.crc_fold.specs.Folded.{octs4, lows4}
 use Rattle.crc_fold.proofs.Rows.{four-alike}
 use Rattle.crc_fold.proofs.folded.turned.Goals as goal

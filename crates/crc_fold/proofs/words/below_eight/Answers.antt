@@ -1,7 +1,6 @@
 -- `crc_fold::words::below_eight` meets its contract: four octets are taken in where there are four, and fewer are left.
 use mathlib.Core.Path.{◌∙◌}
 use native.Mathlib.Omega.{arith}
-use borrow.Author.Rules.{rules}
 use Rattle.crc_fold.proofs.Rows.{start, along}
 use Rattle.crc_fold.proofs.words.below_eight.Goals as goal
 

@@ -1,7 +1,6 @@
 -- `crc_fold::words::below_four` meets its contract: two octets are taken in where there are two, and fewer are left.
 use mathlib.Core.Path.{◌∙◌}
 use native.Mathlib.Omega.{arith}
-use borrow.Author.Rules.{rules}
 use Rattle.crc_fold.proofs.Rows.{start, along}
 use Rattle.crc_fold.proofs.words.below_four.Goals as goal
 

@@ -2,7 +2,6 @@
 use mathlib.Core.Path.{refl}
 use native.Mathlib.Omega.{arith}
 use lib.ListN.{drop}
-use borrow.Author.Rules.{rules}
 use Rattle.crc_register.specs.Crc.{crc_from}
 use Rattle.crc_register.proofs.Linear.{StillMakes, turn, end}
 use Rattle.crc_fold.proofs.words.below_two.Goals as goal

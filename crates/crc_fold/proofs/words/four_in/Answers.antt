@@ -1,7 +1,6 @@
 -- `crc_fold::words::four_in` meets its contract: zero octets in front leave nothing, and the register is added to the next two.
 use mathlib.Core.Path.{refl, ap, ◌∙◌}
 use native.Mathlib.Omega.{arith}
-use borrow.Author.Rules.{rules}
 use Rattle.crc_register.specs.Crc.{◌⊕◌, crc_from}
 use Rattle.crc_fold.proofs.Word.{met4, gets, octets-at}
 use Rattle.crc_fold.proofs.words.four_in.Goals as goal

@@ -1,6 +1,5 @@
 -- `crc_fold::words::join` meets its contract: each octet is read out again.
 use native.Mathlib.Omega.{arith}
-use borrow.Author.Rules.{rules}
 use Rattle.crc_fold.proofs.Word.{joined}
 use Rattle.crc_fold.proofs.words.join.Goals as goal
 

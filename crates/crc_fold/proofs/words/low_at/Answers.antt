@@ -2,7 +2,6 @@
 use mathlib.Core.Path.{ap, ◌∙◌}
 use mathlib.Core.List.{reverse}
 use native.Mathlib.Omega.{arith}
-use borrow.Author.Rules.{rules}
 use Rattle.crc_fold.specs.Word.{lows}
 use Rattle.crc_fold.proofs.Word.{gets, octets-at}
 use Rattle.crc_fold.proofs.words.low_at.Goals as goal

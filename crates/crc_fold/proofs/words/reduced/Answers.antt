@@ -1,6 +1,5 @@
 -- `crc_fold::words::reduced` meets its contract: a test at each of the 64 bits.
 use native.Mathlib.Omega.{arith}
-use borrow.Author.Rules.{rules}
 use Rattle.crc_register.specs.Crc.{◌⊕◌}
 use Rattle.crc_fold.proofs.Word.{shifts8, by-shifts}
 use Rattle.crc_fold.proofs.words.reduced.Goals as goal

@@ -1,12 +1,8 @@
 -- `crc_fold::words::stepped` meets its contract: each turn takes in the eight octets from i on.
-use mathlib.Core.Path.{refl, ap, ◌∙◌}
 use Prim.Native.Nat.{◌-◌}
-use native.Mathlib.Omega.{arith}
 use lib.ListN.{length, drop}
-use borrow.Author.Rules.{rules}
 use Rattle.crc_register.specs.Crc.{crc_from}
 use Rattle.crc_fold.specs.Word.{Left}
-use Rattle.crc_fold.proofs.Rows.{along}
 use Rattle.crc_fold.proofs.words.stepped.Given as goal
 
 abbrev pub invariant-loop-i : goal.invariant-loop-i

@@ -1,7 +1,6 @@
 -- `crc_fold::words::two_in` meets its contract: zero octets in front leave nothing, and the register is added to the last two.
 use mathlib.Core.Path.{refl, ap, ◌∙◌}
 use native.Mathlib.Omega.{arith}
-use borrow.Author.Rules.{rules}
 use Rattle.crc_register.specs.Crc.{◌⊕◌, crc_from}
 use Rattle.crc_fold.proofs.Word.{met2, gets, octets-at}
 use Rattle.crc_fold.proofs.words.two_in.Goals as goal

@@ -6,7 +6,6 @@ use lib.Dec.{eqb}
 use borrow.Author.Tests.{eq-eqb, ne_eqb}
 use Rattle.space_packet.specs.Answer.{gives, refusal, refuse_if}
 use Rattle.space_packet.proofs.Answers.{refuse-yes, refuse-no}
-use borrow.Author.Rules.{rules}
 use Rattle.ecss.proofs.PusVersion.check.Goals as goal
 
 pub returns-then-number-raw_value : goal.returns-then-number-raw_value

@@ -5,7 +5,6 @@ use Rattle.space_packet.proofs.Answers.{gives_then, refuses-then}
 use Rattle.space_packet.specs.Answer.{size_answer, check_answer}
 use Rattle.ecss.proofs.Frames.{frame-total}
 use Rattle.ecss.specs.Frame.{checked_of}
-use borrow.Author.Rules.{rules}
 use Rattle.ecss.proofs.frame.checked.Goals as goal
 
 pub overflow_sub-total : goal.overflow_sub-total

@@ -3,7 +3,6 @@ use mathlib.Core.Path.{sym, ap, ◌∙◌}
 use Rattle.space_packet.specs.Answer.{check_answer}
 use Rattle.space_packet.proofs.Answers.{gives_then, refuses-then}
 use Rattle.ecss.specs.Frame.{checked_after}
-use borrow.Author.Rules.{rules}
 use Rattle.ecss.proofs.frame.checked_after.Goals as goal
 
 pub returns-in-Err : goal.returns-in-Err

@@ -7,7 +7,6 @@ use borrow.Author.Tests.{not-true, not-false}
 use Rattle.space_packet.specs.Bits.{word}
 use Rattle.ecss.specs.Frame.{crc_taken}
 use Rattle.ecss.specs.declared.Crc16.TheVariants.{Some}
-use borrow.Author.Rules.{rules}
 use Rattle.ecss.proofs.frame.crc_taken.Goals as goal
 
 pub returns-then-not-has_checksum : goal.returns-then-not-has_checksum

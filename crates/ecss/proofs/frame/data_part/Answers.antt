@@ -4,7 +4,6 @@ use native.Mathlib.Omega.{arith}
 use Rattle.space_packet.specs.Answer.{size_answer}
 use Rattle.space_packet.proofs.Parts.{beyond-none}
 use Rattle.ecss.proofs.After.{frame-given}
-use borrow.Author.Rules.{rules}
 use Rattle.ecss.proofs.frame.data_part.Goals as goal
 
 pub overflow_sub-end : goal.overflow_sub-end

@@ -4,7 +4,6 @@ use borrow.Author.Tests.{lt-ltb, le-ltb}
 use Rattle.space_packet.proofs.Answers.{refuse-yes}
 use Rattle.space_packet.specs.Answer.{size_answer, refuse_if}
 use Rattle.ecss.specs.Frame.{frame_of}
-use borrow.Author.Rules.{rules}
 use Rattle.ecss.proofs.frame.frame_of.Goals as goal
 
 pub returns-then-n-start : goal.returns-then-n-start

@@ -2,7 +2,6 @@
 use mathlib.Core.Path.{refl, sym}
 use native.Mathlib.Omega.{arith}
 use lib.Seq.{take_all, length-take-le}
-use borrow.Author.Rules.{rules}
 use Rattle.ecss.proofs.frame.front.Goals as goal
 
 pub returns-then-s-n : goal.returns-then-s-n

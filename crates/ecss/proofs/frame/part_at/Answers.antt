@@ -6,7 +6,6 @@ use lib.ListN.{length, take, drop, length-drop}
 use lib.Seq.{take_all}
 use Rattle.space_packet.proofs.Parts.{reached-none, reached-all}
 use Rattle.ecss.proofs.Frames.{none_left}
-use borrow.Author.Rules.{rules}
 use Rattle.ecss.proofs.frame.part_at.Goals as goal
 
 pub returns-then-s-at : goal.returns-then-s-at

@@ -1,7 +1,6 @@
 -- `frame::raw_part` meets its contract: the empty part where the frame is refused, else the octets of its total.
 use mathlib.Core.Path.{refl, sym, ap, ◌∙◌}
 use Rattle.space_packet.specs.Answer.{size_answer}
-use borrow.Author.Rules.{rules}
 use Rattle.ecss.proofs.frame.raw_part.Goals as goal
 
 pub returns-in-Err : goal.returns-in-Err

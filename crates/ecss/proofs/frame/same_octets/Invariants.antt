@@ -1,12 +1,8 @@
 -- `frame::same_octets` meets its contract: what is left from i on is the same just where the whole is, and i rises to the end.
-use mathlib.Core.Path.{◌≡◌, refl, sym, ◌∙◌}
-use native.Mathlib.Omega.{arith}
-use borrow.Author.Rules.{rules}
+use mathlib.Core.Path.{◌≡◌}
 use Prim.Native.Nat.{◌≤◌, ◌-◌}
-use native.Mathlib.Numerals.{add-one}
 use lib.ListN.{length, drop}
 use Rattle.ecss.specs.Frame.{same_octets}
-use Rattle.ecss.proofs.Octets.{length-differs, same_step, same_stop, same_end}
 use Rattle.ecss.proofs.frame.same_octets.Given as goal
 
 abbrev pub invariant-loop-i : goal.invariant-loop-i

@@ -2,7 +2,6 @@
 use Rattle.space_packet.specs.Header.{id_from, with_id}
 use mathlib.Core.Bool.{true}
 use mathlib.Core.Path.{◌∙◌, ap}
-use borrow.Author.Rules.{rules}
 use Rattle.ecss_write.proofs.packet.as_type.Goals as goal
 
 pub returns : goal.returns

@@ -2,7 +2,6 @@
 use mathlib.Core.Path.{sym, ap, ◌∙◌}
 use Rattle.space_packet.specs.Answer.{check_answer, size_answer}
 use Rattle.space_packet.proofs.Answers.{gives_then, refuses-then}
-use borrow.Author.Rules.{rules}
 use Rattle.ecss_write.proofs.packet.asked_last.Goals as goal
 
 pub returns-in-Err : goal.returns-in-Err

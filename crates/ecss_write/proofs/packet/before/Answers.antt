@@ -2,7 +2,6 @@
 use mathlib.Core.Path.{◌∙◌, ap, sym}
 use Rattle.space_packet.proofs.Answers.{gives_then, refuses-then}
 use Rattle.space_packet.specs.Answer.{check_answer}
-use borrow.Author.Rules.{rules}
 use Rattle.ecss_write.proofs.packet.before.Goals as goal
 
 pub returns-in-Err : goal.returns-in-Err

@@ -3,7 +3,6 @@ use mathlib.Core.Path.{sym, ◌∙◌}
 use Rattle.space_packet.proofs.Answers.{then-of}
 use Rattle.ecss_write.proofs.Totals.{limit-first}
 use Rattle.ecss_write.proofs.Written.{reserve-by-room}
-use borrow.Author.Rules.{rules}
 use Rattle.ecss_write.proofs.packet.check_reserve.Goals as goal
 
 pub returns : goal.returns

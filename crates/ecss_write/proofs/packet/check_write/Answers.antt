@@ -2,7 +2,6 @@
 use mathlib.Core.Path.{sym, ◌∙◌}
 use Rattle.space_packet.proofs.Answers.{then-of}
 use Rattle.ecss_write.proofs.Written.{write-by-room}
-use borrow.Author.Rules.{rules}
 use Rattle.ecss_write.proofs.packet.check_write.Goals as goal
 
 pub returns : goal.returns

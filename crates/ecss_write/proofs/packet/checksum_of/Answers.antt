@@ -2,7 +2,6 @@
 use mathlib.Core.Path.{sym, ap}
 use Rattle.space_packet.proofs.Answers.{gives_then, refuses-then}
 use Rattle.ecss_write.specs.Write.{crc_answer}
-use borrow.Author.Rules.{rules}
 use Rattle.ecss_write.proofs.packet.checksum_of.Goals as goal
 
 pub returns-in-Err : goal.returns-in-Err

@@ -3,7 +3,6 @@ use mathlib.Core.Path.{◌∙◌, ap, sym}
 use Rattle.ecss_write.specs.Write.{asked_by}
 use Rattle.ecss_write.specs.Write.{data_len_answer}
 use Rattle.ecss_write.proofs.Written.{afresh-refused, afresh-set}
-use borrow.Author.Rules.{rules}
 use Rattle.ecss_write.proofs.packet.length_afresh.Goals as goal
 
 pub returns-in-Err : goal.returns-in-Err

@@ -5,7 +5,6 @@ use Rattle.space_packet.proofs.Answers.{gives_then, refuses-then}
 use Rattle.space_packet.specs.Answer.{check_answer, gives}
 use Rattle.ecss_write.specs.Write.{field_with}
 use Rattle.ecss_write.specs.Write.{length_field}
-use borrow.Author.Rules.{rules}
 use Rattle.ecss_write.proofs.packet.length_for.Goals as goal
 
 pub returns-then-config : goal.returns-then-config

@@ -4,7 +4,6 @@ use Rattle.space_packet.specs.Answer.{gives}
 use Rattle.space_packet.specs.declared.SpacePacketHeader.{SpacePacketHeader}
 use Rattle.space_packet.proofs.Answers.{gives_then, refuses-then}
 use Rattle.ecss_write.specs.Write.{data_len_answer, with_length}
-use borrow.Author.Rules.{rules}
 use Rattle.ecss_write.proofs.packet.made.Goals as goal
 
 pub returns-in-Err : goal.returns-in-Err

@@ -6,7 +6,6 @@ use Rattle.space_packet.proofs.Answers.{gives_then, refuses-then}
 use Rattle.space_packet.specs.Answer.{check_answer}
 use Rattle.ecss_write.specs.Write.{own_with}
 use Rattle.ecss_write.proofs.Written.{head-asked, own-head, own-given}
-use borrow.Author.Rules.{rules}
 use Rattle.ecss_write.proofs.packet.own_checksum.Goals as goal
 
 pub returns-in-Err : goal.returns-in-Err

@@ -8,7 +8,6 @@ use Rattle.space_packet.specs.Answer.{Passed}
 use Rattle.space_packet.specs.Wrote.{Wrote}
 use Rattle.space_packet.specs.declared.SizeResult.{SizeResult}
 use Rattle.ecss_write.specs.Write.{put_with, put_octets}
-use borrow.Author.Rules.{rules}
 use Rattle.ecss_write.proofs.packet.put.Goals as goal
 
 chosen : (x y : Bool) (before after : Passed) (start : ℕ) (b : Bool) (n m : ℕ) (o l k : List ℕ) (r : SizeResult) → x ≡ y

@@ -1,6 +1,5 @@
 -- `packet::put_data` meets its contract: the data has room from `start` on, so it fills that part from its start.
 use Rattle.ecss_write.proofs.Written.{fill-left}
-use borrow.Author.Rules.{rules}
 use Rattle.ecss_write.proofs.packet.put_data.Goals as goal
 
 pub returns : goal.returns

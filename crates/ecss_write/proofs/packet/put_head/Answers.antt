@@ -1,7 +1,6 @@
 -- `packet::put_head` meets its contract: a header in range is written, and `sec` has room behind its six octets.
 use native.Mathlib.Omega.{arith}
 use Rattle.ecss_write.proofs.Written.{head-left}
-use borrow.Author.Rules.{rules}
 use Rattle.ecss_write.proofs.packet.put_head.Goals as goal
 
 pub returns : goal.returns

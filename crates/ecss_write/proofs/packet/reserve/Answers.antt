@@ -4,7 +4,6 @@ use native.Mathlib.Omega.{arith}
 use Rattle.space_packet.specs.Answer.{size_answer}
 use Rattle.ecss_write.specs.Write.{with_length}
 use Rattle.ecss_write.proofs.Written.{reserves, head-asked, length-asked, headed-by, headed-wrote}
-use borrow.Author.Rules.{rules}
 use Rattle.ecss_write.proofs.packet.reserve.Goals as goal
 
 pub field_of-requires : goal.field_of-requires

@@ -8,7 +8,6 @@ use native.Mathlib.Omega.{arith}
 use Rattle.space_packet.specs.Answer.{check_answer, size_answer}
 use Rattle.ecss_write.specs.Write.{asked_by}
 use Rattle.ecss_write.proofs.Written.{content-length, open-wrote, refused-wrote, sealed-wrote}
-use borrow.Author.Rules.{rules}
 use Rattle.ecss_write.proofs.packet.write.Goals as goal
 
 pub returns-then-has_checksum : goal.returns-then-has_checksum

@@ -4,7 +4,6 @@ use native.Mathlib.Omega.{arith}
 use Rattle.space_packet.proofs.Answers.{refuses-then, left-refused}
 use Rattle.space_packet.specs.Answer.{size_answer}
 use Rattle.ecss_write.proofs.Written.{writes, head-asked, bare-wrote}
-use borrow.Author.Rules.{rules}
 use Rattle.ecss_write.proofs.packet.write_bare.Goals as goal
 
 pub put_head-requires : goal.put_head-requires

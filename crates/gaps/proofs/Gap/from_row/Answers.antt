@@ -3,7 +3,6 @@ use mathlib.Core.Path.{sym, ap, ◌∙◌}
 use Rattle.space_packet.specs.Fields.{apid_answer, seq_count_answer}
 use Rattle.space_packet.proofs.Answers.{then-refused}
 use Rattle.gaps.proofs.Records.{passed, apid-over, expected-over, found-over, all-within}
-use borrow.Author.Rules.{rules}
 use Rattle.gaps.proofs.Gap.from_row.Goals as goal
 
 pub returns-in-Err : goal.returns-in-Err

@@ -1,6 +1,5 @@
 -- `Scan::accept` meets its contract, in each of its five exits.
 use Rattle.gaps.proofs.Scans.{takes_none, takes_first, takes-next, takes-no-place, takes-gap}
-use borrow.Author.Rules.{rules}
 use Rattle.gaps.proofs.Scan.accept.Goals as goal
 
 pub returns-then-p-ge-MAX_APIDS : goal.returns-then-p-ge-MAX_APIDS

@@ -1,13 +1,9 @@
 -- `Scan::place` meets its contract: the entries before i are of other APIDs.
-use Prim.Native.Nat.{◌+◌, ◌-◌, ◌≤◌}
-use mathlib.Core.Path.{◌≡◌, sym, ap, ◌∙◌}
+use mathlib.Core.Path.{sym, ap, ◌∙◌}
 use native.Mathlib.Omega.{arith}
-use lib.ListN.{take, drop}
-use Rattle.gaps.specs.Gaps.{place_of}
 use Rattle.gaps.specs.declared.Command.{Command}
 use Rattle.gaps.proofs.Places.{entry_at, place_here, place-on, place_end}
 use Rattle.gaps.proofs.Scans.{entries_of, entries-length}
-use borrow.Author.Rules.{rules}
 use Rattle.gaps.proofs.Scan.place.Goals as goal
 
 pub loop-i-init : goal.loop-i-init

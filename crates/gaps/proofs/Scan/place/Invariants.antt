@@ -1,13 +1,8 @@
 -- `Scan::place` meets its contract: the entries before i are of other APIDs.
 use Prim.Native.Nat.{◌+◌, ◌-◌, ◌≤◌}
-use mathlib.Core.Path.{◌≡◌, sym, ap, ◌∙◌}
-use native.Mathlib.Omega.{arith}
+use mathlib.Core.Path.{◌≡◌}
 use lib.ListN.{take, drop}
 use Rattle.gaps.specs.Gaps.{place_of}
-use Rattle.gaps.specs.declared.Command.{Command}
-use Rattle.gaps.proofs.Places.{entry_at, place_here, place-on, place_end}
-use Rattle.gaps.proofs.Scans.{entries_of, entries-length}
-use borrow.Author.Rules.{rules}
 use Rattle.gaps.proofs.Scan.place.Given as goal
 
 abbrev pub invariant-loop-i : goal.invariant-loop-i

@@ -9,7 +9,6 @@ use Rattle.tc_strict.specs.declared.Verdict.{Verdict}
 use Rattle.tc_strict.specs.declared.split.Step.{Step}
 use Rattle.gaps.specs.Gaps.{on, command_move, move_of, move_by, length_by, state_of, Sound}
 use Rattle.gaps.specs.declared.Scan.{Scan}
-use borrow.Author.Rules.{rules}
 use Rattle.gaps.proofs.Scan.take.Goals as goal
 
 pub end-requires : goal.end-requires

@@ -8,7 +8,6 @@ use borrow.Author.Tests.{lt-ltb, le-ltb}
 use Rattle.space_packet.specs.Bits.{pick}
 use Rattle.params.specs.Request.{blank, pairs_of}
 use Rattle.params.specs.declared.PairAt.TheVariants.{Some, None}
-use borrow.Author.Rules.{rules}
 use Rattle.params.proofs.Params.get.Goals as goal
 
 pub returns-then-i-used : goal.returns-then-i-used

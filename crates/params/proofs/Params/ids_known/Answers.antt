@@ -1,13 +1,11 @@
 -- `Params::ids_known` meets its contract: the IDs from the place i on are known as all are.
-use Prim.Native.Nat.{◌-◌, ◌≤◌}
-use mathlib.Core.Path.{◌≡◌, refl, sym, ap, ◌∙◌}
+use mathlib.Core.Path.{refl, sym, ap, ◌∙◌}
 use native.Mathlib.Omega.{arith}
-use lib.ListN.{take, drop, length}
+use lib.ListN.{length}
 use Rattle.params.specs.Parameters.{octets_by}
 use Rattle.params.specs.Request.{ids_known}
 use Rattle.params.proofs.Lists.{known-not, known_some}
 use Rattle.params.proofs.WriteLaws.{pair-at, no_more, ids-known, ids-unknown, ids-end}
-use borrow.Author.Rules.{rules}
 use Rattle.params.proofs.Params.ids_known.Goals as goal
 
 pub loop-i-init : goal.loop-i-init

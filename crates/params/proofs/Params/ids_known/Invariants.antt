@@ -1,13 +1,8 @@
 -- `Params::ids_known` meets its contract: the IDs from the place i on are known as all are.
 use Prim.Native.Nat.{◌-◌, ◌≤◌}
-use mathlib.Core.Path.{◌≡◌, refl, sym, ap, ◌∙◌}
-use native.Mathlib.Omega.{arith}
-use lib.ListN.{take, drop, length}
-use Rattle.params.specs.Parameters.{octets_by}
+use mathlib.Core.Path.{◌≡◌}
+use lib.ListN.{take, drop}
 use Rattle.params.specs.Request.{ids_known}
-use Rattle.params.proofs.Lists.{known-not, known_some}
-use Rattle.params.proofs.WriteLaws.{pair-at, no_more, ids-known, ids-unknown, ids-end}
-use borrow.Author.Rules.{rules}
 use Rattle.params.proofs.Params.ids_known.Given as goal
 
 abbrev pub invariant-loop-i : goal.invariant-loop-i

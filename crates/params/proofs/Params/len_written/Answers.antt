@@ -3,12 +3,10 @@ use Prim.Native.Nat.{◌≤◌}
 use mathlib.Core.Path.{sym, ap, ◌∙◌}
 use native.Mathlib.Omega.{arith}
 use lib.ListN.{length-take}
-use borrow.Author.Tests.{not-true, not-false}
 use Rattle.space_packet.specs.Answer.{check_answer, size_answer}
 use Rattle.params.specs.Request.{length_of, pairs_of}
 use Rattle.params.proofs.Lists.{good-by}
 use Rattle.params.proofs.WriteLaws.{length-refused, length-is, pairs-ten, request-list, request-ids, request-many, request-pairs, counted-length, counted-refused}
-use borrow.Author.Rules.{rules}
 use Rattle.params.proofs.Params.len_written.Goals as goal
 
 pub returns-in-Err : goal.returns-in-Err

@@ -5,7 +5,6 @@ use mathlib.Core.Bool.{Bool}
 use lib.ListN.{set}
 use borrow.Author.Tests.{lt-ltb, le-ltb}
 use Rattle.space_packet.specs.Bits.{pick}
-use borrow.Author.Rules.{rules}
 use Rattle.params.proofs.Params.push.Goals as goal
 
 pub returns-then-n-lt255 : goal.returns-then-n-lt255

@@ -1,5 +1,5 @@
 -- `Params::put_pairs` meets its contract: each turn writes one pair more.
-use Prim.Native.Nat.{◌+◌, ◌-◌, ◌≤◌}
+use Prim.Native.Nat.{◌+◌}
 use mathlib.Core.Path.{sym, ap, ◌∙◌, subst}
 use mathlib.Core.List.{List, ◌++◌}
 use native.Mathlib.Omega.{arith}
@@ -8,8 +8,7 @@ use Rattle.param_value.specs.Octets.{given_by}
 use Rattle.params.specs.Request.{pairs_octets}
 use Rattle.params.specs.Places.{HasRoom}
 use Rattle.params.specs.declared.Pair.{Pair}
-use Rattle.params.proofs.WriteLaws.{pair-at, no_more, Putting, putting-begins, putting-length, putting-within, putting-room, putting-up, putting-on, putting-done}
-use borrow.Author.Rules.{rules}
+use Rattle.params.proofs.WriteLaws.{pair-at, no_more, putting-begins, putting-length, putting-within, putting-room, putting-up, putting-on, putting-done}
 use Rattle.params.proofs.Params.put_pairs.Goals as goal
 
 pub loop-i-init : goal.loop-i-init

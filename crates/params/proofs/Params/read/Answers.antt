@@ -5,7 +5,6 @@ use Rattle.space_packet.specs.declared.PusError.{PusError}
 use Rattle.params.specs.Request.{kept_of}
 use Rattle.params.proofs.Lists.{good-by}
 use Rattle.params.proofs.ReadLaws.{kept-refused, read-list, read-empty, read_all}
-use borrow.Author.Rules.{rules}
 use Rattle.params.proofs.Params.read.Goals as goal
 
 pub returns-in-Err : goal.returns-in-Err

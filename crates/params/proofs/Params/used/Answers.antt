@@ -1,7 +1,7 @@
 -- `Params::used` meets its contract: the count, or the 255 places where it is more.
 use mathlib.Core.Path.{◌≡◌, refl, sym, ap, ◌∙◌}
 use native.Mathlib.Omega.{arith}
-use lib.ListN.{length, length-map}
+use lib.ListN.{length}
 use lib.Seq.{length-take-le, take_all}
 use Rattle.params.proofs.Params.used.Goals as goal
 

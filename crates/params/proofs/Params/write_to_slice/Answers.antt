@@ -4,8 +4,7 @@ use native.Mathlib.Omega.{arith}
 use lib.ListN.{length-set}
 use Rattle.space_packet.specs.Answer.{size_answer}
 use Rattle.params.specs.Request.{pairs_of}
-use Rattle.params.proofs.WriteLaws.{wrote-not, wrote-small, count_fits, total-is, pairs-room, done-length, wrote-done}
-use borrow.Author.Rules.{rules}
+use Rattle.params.proofs.WriteLaws.{wrote-not, wrote-small, count_fits, total-is, pairs-room, wrote-done}
 use Rattle.params.proofs.Params.write_to_slice.Goals as goal
 
 pub returns-in_default : goal.returns-in_default

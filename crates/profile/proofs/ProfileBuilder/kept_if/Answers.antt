@@ -2,7 +2,6 @@
 use mathlib.Core.Path.{ap, refl}
 use Rattle.space_packet.specs.Answer.{check_answer}
 use Rattle.space_packet.proofs.Answers.{kept_new, kept-old}
-use borrow.Author.Rules.{rules}
 use Rattle.profile.proofs.ProfileBuilder.kept_if.Goals as goal
 
 pub returns-in-Err : goal.returns-in-Err

@@ -5,7 +5,6 @@ use Rattle.space_packet.specs.declared.SpacePacketHeader.{SpacePacketHeader}
 use Rattle.tc_header.specs.Header.{with_flag}
 use Rattle.tc_header.specs.declared.AckFlags.{AckFlags}
 use Rattle.profile.specs.Builder.{command_from, builder_of}
-use borrow.Author.Rules.{rules}
 use Rattle.profile.proofs.ProfileBuilder.new.Goals as goal
 
 pub returns : goal.returns

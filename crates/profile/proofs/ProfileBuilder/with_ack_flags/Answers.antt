@@ -1,7 +1,6 @@
 -- `ProfileBuilder::with_ack_flags` meets its contract: the check of what is handed in, and the builder with it.
 use mathlib.Core.Path.{refl}
 use Rattle.ecss_write.proofs.Calls.{kept_by}
-use borrow.Author.Rules.{rules}
 use Rattle.profile.proofs.ProfileBuilder.with_ack_flags.Goals as goal
 
 pub returns : goal.returns

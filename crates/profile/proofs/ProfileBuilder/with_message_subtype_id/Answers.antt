@@ -1,7 +1,6 @@
 -- `ProfileBuilder::with_message_subtype_id` meets its contract: the message type with that subtype.
 use mathlib.Core.Path.{ap, ◌∙◌}
 use Rattle.profile.specs.Builder.{with_type}
-use borrow.Author.Rules.{rules}
 use Rattle.profile.proofs.ProfileBuilder.with_message_subtype_id.Goals as goal
 
 pub returns : goal.returns

@@ -4,7 +4,6 @@ use Rattle.space_packet.specs.Answer.{set_if}
 use Rattle.space_packet.specs.Fields.{count_check}
 use Rattle.space_packet.specs.declared.PacketSequenceControl.{PacketSequenceControl}
 use Rattle.profile.specs.Builder.{with_psc}
-use borrow.Author.Rules.{rules}
 use Rattle.profile.proofs.ProfileBuilder.with_sequence_count.Goals as goal
 
 pub returns : goal.returns

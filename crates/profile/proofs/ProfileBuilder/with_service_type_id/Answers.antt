@@ -1,7 +1,6 @@
 -- `ProfileBuilder::with_service_type_id` meets its contract: the message type with that service.
 use mathlib.Core.Path.{ap, ◌∙◌}
 use Rattle.profile.specs.Builder.{with_type}
-use borrow.Author.Rules.{rules}
 use Rattle.profile.proofs.ProfileBuilder.with_service_type_id.Goals as goal
 
 pub returns : goal.returns

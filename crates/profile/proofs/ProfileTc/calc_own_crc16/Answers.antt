@@ -2,7 +2,6 @@
 use mathlib.Core.Path.{sym, ap, ◌∙◌}
 use Rattle.space_packet.proofs.Answers.{gives_then, refuses-then}
 use Rattle.tc_write.specs.Creator.{creator_answer}
-use borrow.Author.Rules.{rules}
 use Rattle.profile.proofs.ProfileTc.calc_own_crc16.Goals as goal
 
 pub returns-in-Err : goal.returns-in-Err

@@ -4,7 +4,6 @@ use lib.ListN.{length}
 use Rattle.space_packet.proofs.Answers.{gives_then, refuses-then}
 use Rattle.tc_write.specs.Creator.{new_of, creator_answer}
 use Rattle.profile.specs.Builder.{creator_for}
-use borrow.Author.Rules.{rules}
 use Rattle.profile.proofs.ProfileTc.creator.Goals as goal
 
 pub returns-in-Err : goal.returns-in-Err

@@ -1,7 +1,6 @@
 -- `ProfileTc::first_header` meets its contract: the header of that packet ID and sequence control.
 use mathlib.Core.Path.{ap, ◌∙◌}
 use Rattle.space_packet.specs.Header.{header_of}
-use borrow.Author.Rules.{rules}
 use Rattle.profile.proofs.ProfileTc.first_header.Goals as goal
 
 pub returns : goal.returns

@@ -3,7 +3,6 @@ use mathlib.Core.Path.{sym, ap, ◌∙◌}
 use Rattle.space_packet.specs.Answer.{gives}
 use Rattle.space_packet.specs.Header.{sp_header_answer}
 use Rattle.space_packet.proofs.Answers.{gives_then, refuses-then}
-use borrow.Author.Rules.{rules}
 use Rattle.profile.proofs.ProfileTc.len_written.Goals as goal
 
 pub returns-in-Err : goal.returns-in-Err

@@ -3,7 +3,6 @@ use mathlib.Core.Path.{sym, ap, ◌∙◌}
 use Rattle.space_packet.specs.Answer.{gives}
 use Rattle.space_packet.proofs.Answers.{gives_then, refuses-then}
 use Rattle.tc_write.specs.Creator.{creator_answer}
-use borrow.Author.Rules.{rules}
 use Rattle.profile.proofs.ProfileTc.sp_header.Goals as goal
 
 pub returns-in-Err : goal.returns-in-Err

@@ -2,7 +2,6 @@
 use mathlib.Core.Path.{refl, sym, ap, ◌∙◌}
 use Rattle.tc_write.specs.Creator.{creator_answer}
 use Rattle.profile.proofs.Commands.{command-written, command-refused}
-use borrow.Author.Rules.{rules}
 use Rattle.profile.proofs.ProfileTc.write_to_slice.Goals as goal
 
 pub returns-in-Err : goal.returns-in-Err

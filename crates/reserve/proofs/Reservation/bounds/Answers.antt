@@ -4,7 +4,6 @@ use mathlib.Core.Path.{sym, ap, ◌∙◌}
 use native.Mathlib.Omega.{arith}
 use Rattle.space_packet.proofs.Answers.{refuses-then}
 use Rattle.space_packet.specs.Answer.{check_answer}
-use borrow.Author.Rules.{rules}
 use Rattle.reserve.proofs.Reservation.bounds.Goals as goal
 
 pub overflow_sub-result : goal.overflow_sub-result

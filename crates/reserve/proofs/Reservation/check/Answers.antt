@@ -7,7 +7,6 @@ use borrow.Author.Tests.{lt-ltb, le-ltb, eq-eqb, ne_eqb}
 use Rattle.space_packet.proofs.Answers.{refuse-yes, refuse-no}
 use Rattle.ecss.specs.Frame.{trailer}
 use Rattle.reserve.specs.Reserve.{holds}
-use borrow.Author.Rules.{rules}
 use Rattle.reserve.proofs.Reservation.check.Goals as goal
 
 pub returns-then-self-start : goal.returns-then-self-start

@@ -4,7 +4,6 @@ use borrow.Author.Tests.{lt-ltb, le-ltb}
 use Rattle.space_packet.proofs.Answers.{refuse-yes, refuse-no, gives_then, refuses-then}
 use Rattle.space_packet.specs.Answer.{check_answer}
 use Rattle.reserve.specs.Reserve.{holds_in}
-use borrow.Author.Rules.{rules}
 use Rattle.reserve.proofs.Reservation.check_in.Goals as goal
 
 pub returns-then-found-expected : goal.returns-then-found-expected

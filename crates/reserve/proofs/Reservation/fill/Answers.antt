@@ -5,7 +5,6 @@ use Rattle.space_packet.proofs.Answers.{refuses-then}
 use Rattle.reserve.specs.Reserve.{bounds_answer, fill_in}
 use Rattle.reserve.proofs.Reserved.{bounds-are, bounds-refused}
 use Rattle.reserve.proofs.Filled.{fill-by, fill-wrote}
-use borrow.Author.Rules.{rules}
 use Rattle.reserve.proofs.Reservation.fill.Goals as goal
 
 pub slice_bounds-fill-count : goal.slice_bounds-fill-count

@@ -7,7 +7,6 @@ use Rattle.ecss.specs.Frame.{trailer}
 use Rattle.reserve.specs.Reserve.{finish_in}
 use Rattle.reserve.proofs.Reserved.{holds-in}
 use Rattle.reserve.proofs.Filled.{finish-sealed, finish-plain}
-use borrow.Author.Rules.{rules}
 use Rattle.reserve.proofs.Reservation.finalize.Goals as goal
 
 pub overflow_sub-self : goal.overflow_sub-self

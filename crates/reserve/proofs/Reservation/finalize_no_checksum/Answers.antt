@@ -5,7 +5,6 @@ use Rattle.space_packet.proofs.Answers.{gives_then, refuses-then}
 use Rattle.space_packet.specs.Answer.{check_answer}
 use Rattle.reserve.proofs.Reserved.{holds-in}
 use Rattle.reserve.specs.Reserve.{bare_in}
-use borrow.Author.Rules.{rules}
 use Rattle.reserve.proofs.Reservation.finalize_no_checksum.Goals as goal
 
 pub overflow_sub-result : goal.overflow_sub-result

@@ -4,7 +4,6 @@ use native.Mathlib.Omega.{arith}
 use Rattle.space_packet.proofs.Parts.{beyond-none}
 use Rattle.reserve.specs.Reserve.{bounds_answer}
 use Rattle.reserve.proofs.Reserved.{bounds-are}
-use borrow.Author.Rules.{rules}
 use Rattle.reserve.proofs.Reservation.part.Goals as goal
 
 pub slice_bounds-result-count : goal.slice_bounds-result-count

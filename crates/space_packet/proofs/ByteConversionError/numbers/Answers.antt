@@ -1,7 +1,6 @@
 -- `ByteConversionError::numbers` meets its contract: each arm is its line of the table.
 use mathlib.Core.Path.{sym, ap, ◌∙◌}
 use Rattle.space_packet.specs.Answer.{bytes_numbers, in_numbers}
-use borrow.Author.Rules.{rules}
 use Rattle.space_packet.proofs.ByteConversionError.numbers.Goals as goal
 
 pub returns-in-ToSliceTooSmall : goal.returns-in-ToSliceTooSmall

@@ -4,7 +4,6 @@ use Prim.Native.Nat.{◌/◌, ◌%◌}
 use mathlib.Core.Path.{ap, ◌∙◌}
 use Rattle.space_packet.specs.Bits.{lowest}
 use Rattle.space_packet.specs.Header.{id_from}
-use borrow.Author.Rules.{rules}
 use Rattle.space_packet.proofs.PacketId.from.Goals as goal
 
 pub returns : goal.returns

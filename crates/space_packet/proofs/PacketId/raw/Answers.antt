@@ -2,7 +2,6 @@
 use native.Mathlib.Omega.{arith}
 use Rattle.space_packet.proofs.Numbers.{type-le, bool_le, bool-flag}
 use Rattle.space_packet.specs.Fields.{id_raw}
-use borrow.Author.Rules.{rules}
 use Rattle.space_packet.proofs.PacketId.raw.Goals as goal
 
 pub overflow_mul-result : goal.overflow_mul-result

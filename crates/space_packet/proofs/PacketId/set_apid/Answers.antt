@@ -2,7 +2,6 @@
 use mathlib.Core.Path.{sym, ap, ◌∙◌}
 use Rattle.space_packet.specs.Answer.{check_answer}
 use Rattle.space_packet.proofs.Answers.{kept_new, kept-old}
-use borrow.Author.Rules.{rules}
 use Rattle.space_packet.proofs.PacketId.set_apid.Goals as goal
 
 pub returns-in_default : goal.returns-in_default

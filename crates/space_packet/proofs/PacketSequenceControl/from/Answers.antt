@@ -3,7 +3,6 @@ use Rattle.space_packet.specs.Fields.{psc_of}
 use Prim.Native.Nat.{◌%◌}
 use mathlib.Core.Path.{ap, ◌∙◌}
 use Rattle.space_packet.specs.Header.{psc_from}
-use borrow.Author.Rules.{rules}
 use Rattle.space_packet.proofs.PacketSequenceControl.from.Goals as goal
 
 pub returns : goal.returns

@@ -2,7 +2,6 @@
 use native.Mathlib.Omega.{arith}
 use Rattle.space_packet.proofs.Numbers.{flags-le}
 use Rattle.space_packet.specs.Fields.{psc_raw}
-use borrow.Author.Rules.{rules}
 use Rattle.space_packet.proofs.PacketSequenceControl.raw.Goals as goal
 
 pub overflow_mul-result : goal.overflow_mul-result

@@ -3,7 +3,6 @@ use mathlib.Core.Path.{◌≡◌, sym, ap, ◌∙◌}
 use Rattle.space_packet.specs.Answer.{numbers_of, in_numbers}
 use Rattle.space_packet.specs.declared.PusError.{PusError}
 use Rattle.space_packet.specs.declared.RefusalNumbers.{RefusalNumbers}
-use borrow.Author.Rules.{rules}
 use Rattle.space_packet.proofs.PusError.numbers.Goals as goal
 
 told : {r : RefusalNumbers} {e d : PusError} → r ≡ in_numbers (numbers_of d) → e ≡ d → r ≡ in_numbers (numbers_of e)

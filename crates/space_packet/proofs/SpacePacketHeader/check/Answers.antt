@@ -2,7 +2,6 @@
 use mathlib.Core.Path.{◌∙◌}
 use Rattle.space_packet.specs.Answer.{◌then◌}
 use Rattle.space_packet.specs.Header.{header_check}
-use borrow.Author.Rules.{rules}
 use Rattle.space_packet.proofs.SpacePacketHeader.check.Goals as goal
 
 pub returns : goal.returns

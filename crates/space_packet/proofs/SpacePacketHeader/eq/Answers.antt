@@ -1,7 +1,6 @@
 -- `SpacePacketHeader::eq` meets its contract: each comparison is the definition's, types and flags by their numbers.
 use Rattle.space_packet.proofs.Numbers.{beq-flag}
 use Rattle.space_packet.specs.Header.{same_header}
-use borrow.Author.Rules.{rules}
 use Rattle.space_packet.proofs.SpacePacketHeader.eq.Goals as goal
 
 pub returns : goal.returns

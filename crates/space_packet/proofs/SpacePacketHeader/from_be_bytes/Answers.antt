@@ -6,7 +6,6 @@ use mathlib.Core.Path.{sym, ap, ◌∙◌}
 use Rattle.space_packet.specs.Fields.{id_of, psc_of}
 use Rattle.space_packet.specs.Answer.{gives}
 use Rattle.space_packet.specs.Header.{header_read, read_header}
-use borrow.Author.Rules.{rules}
 use Rattle.space_packet.proofs.SpacePacketHeader.from_be_bytes.Goals as goal
 
 pub returns-then-buf-lt-LENGTH : goal.returns-then-buf-lt-LENGTH

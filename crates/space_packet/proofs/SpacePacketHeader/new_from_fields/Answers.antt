@@ -1,7 +1,6 @@
 -- `SpacePacketHeader::new_from_fields` meets its contract: the packet ID and the sequence control, in a new header.
 use mathlib.Core.Path.{◌∙◌}
 use Rattle.space_packet.specs.Header.{header_of}
-use borrow.Author.Rules.{rules}
 use Rattle.space_packet.proofs.SpacePacketHeader.new_from_fields.Goals as goal
 
 pub returns : goal.returns

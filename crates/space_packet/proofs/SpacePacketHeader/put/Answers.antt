@@ -7,7 +7,6 @@ use lib.ListN.{drop}
 use Rattle.space_packet.specs.Bits.{be16}
 use Rattle.space_packet.specs.Header.{header_octets}
 use Rattle.space_packet.proofs.Numbers.{id-raw-lt}
-use borrow.Author.Rules.{rules}
 use Rattle.space_packet.proofs.SpacePacketHeader.put.Goals as goal
 
 pub overflow_add-w0 : goal.overflow_add-w0

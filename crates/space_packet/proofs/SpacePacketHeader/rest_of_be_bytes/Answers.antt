@@ -5,7 +5,6 @@ use lib.ListN.{length, drop, drop_of_length-le, length-drop}
 use lib.Seq.{take_all}
 use native.Mathlib.Omega.{arith}
 use Rattle.space_packet.proofs.Parts.{reached-none, reached-all}
-use borrow.Author.Rules.{rules}
 use Rattle.space_packet.proofs.SpacePacketHeader.rest_of_be_bytes.Goals as goal
 
 pub returns-then-buf-lt-CCSDS_HEADER_LEN : goal.returns-then-buf-lt-CCSDS_HEADER_LEN

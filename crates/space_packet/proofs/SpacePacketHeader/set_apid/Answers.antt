@@ -2,7 +2,6 @@
 use Rattle.space_packet.proofs.Answers.{set-in}
 use mathlib.Core.Path.{ap, ◌∙◌}
 use Rattle.space_packet.specs.Header.{with_id, header_kept}
-use borrow.Author.Rules.{rules}
 use Rattle.space_packet.proofs.SpacePacketHeader.set_apid.Goals as goal
 
 pub returns : goal.returns

@@ -1,7 +1,6 @@
 -- `SpacePacketHeader::set_packet_type` meets its contract: the new type with the old flag and APID, in the header.
 use mathlib.Core.Path.{ap, ◌∙◌}
 use Rattle.space_packet.specs.Header.{id_from, with_id}
-use borrow.Author.Rules.{rules}
 use Rattle.space_packet.proofs.SpacePacketHeader.set_packet_type.Goals as goal
 
 pub returns : goal.returns

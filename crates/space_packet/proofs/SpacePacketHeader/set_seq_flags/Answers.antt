@@ -1,7 +1,6 @@
 -- `SpacePacketHeader::set_seq_flags` meets its contract: the new flags and the old count, in the header.
 use mathlib.Core.Path.{ap, ◌∙◌}
 use Rattle.space_packet.specs.Header.{psc_from, with_psc}
-use borrow.Author.Rules.{rules}
 use Rattle.space_packet.proofs.SpacePacketHeader.set_seq_flags.Goals as goal
 
 pub returns : goal.returns

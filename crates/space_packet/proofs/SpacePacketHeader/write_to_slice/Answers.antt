@@ -6,7 +6,6 @@ use Rattle.space_packet.specs.Answer.{check_answer}
 use Rattle.space_packet.specs.Header.{header_write}
 use Rattle.space_packet.proofs.Answers.{gives_then, refuses-then, refuse-yes, refuse-no, left-refused, left-written}
 use Rattle.space_packet.proofs.RoundTrip.{check-in-range}
-use borrow.Author.Rules.{rules}
 use Rattle.space_packet.proofs.SpacePacketHeader.write_to_slice.Goals as goal
 
 pub returns-in-Err : goal.returns-in-Err

@@ -2,7 +2,6 @@
 use borrow.Author.Tests.{lt-ltb, le-ltb}
 use Rattle.space_packet.proofs.Answers.{refuse-yes, refuse-no}
 use mathlib.Core.Path.{sym}
-use borrow.Author.Rules.{rules}
 use Rattle.tc_header.proofs.AckFlags.check.Goals as goal
 
 pub returns-then-self-gt15 : goal.returns-then-self-gt15

@@ -1,7 +1,6 @@
 -- `AckFlags::with_flag` meets its contract: the bit adds its weight at most, and with all of it the sum is at most 255.
 use native.Mathlib.Omega.{arith}
 use Rattle.tc_header.proofs.Flags.{flag-at-most}
-use borrow.Author.Rules.{rules}
 use Rattle.tc_header.proofs.AckFlags.with_flag.Goals as goal
 
 pub overflow_mul-result-2 : goal.overflow_mul-result-2

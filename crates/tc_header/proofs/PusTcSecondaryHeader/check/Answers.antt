@@ -3,7 +3,6 @@ use mathlib.Core.Path.{sym, ap, ◌∙◌}
 use Rattle.space_packet.specs.Answer.{check_answer}
 use Rattle.space_packet.proofs.Answers.{no_room, has_room}
 use Rattle.tc_header.proofs.Checks.{checks-refused, checks-no-room, checks-version}
-use borrow.Author.Rules.{rules}
 use Rattle.tc_header.proofs.PusTcSecondaryHeader.check.Goals as goal
 
 pub returns-in_default : goal.returns-in_default

@@ -1,6 +1,5 @@
 -- `PusTcSecondaryHeader::eq` meets its contract: each field is tested, and the versions by their numbers.
 use Rattle.tc_header.specs.Header.{same_sec}
-use borrow.Author.Rules.{rules}
 use Rattle.tc_header.proofs.PusTcSecondaryHeader.eq.Goals as goal
 
 pub returns : goal.returns

@@ -5,7 +5,6 @@ use lib.ListN.{get_or}
 use Rattle.space_packet.specs.Answer.{gives, check_answer}
 use Rattle.space_packet.proofs.Answers.{gives_then, refuses-then, too_few, enough}
 use Rattle.tc_header.specs.Header.{ack_of, sec_from, sec_read_in, tc_of}
-use borrow.Author.Rules.{rules}
 use Rattle.tc_header.proofs.PusTcSecondaryHeader.from_be_bytes_in.Goals as goal
 
 pub returns-in-Err : goal.returns-in-Err

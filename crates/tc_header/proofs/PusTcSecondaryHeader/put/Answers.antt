@@ -5,7 +5,6 @@ use Rattle.tc_header.specs.Form.{source_len, spare_at}
 use Rattle.tc_header.specs.Header.{first_octets, tc_octets}
 use Rattle.tc_header.proofs.Forms.{behind}
 use Rattle.tc_header.proofs.Laws.{before, length_before}
-use borrow.Author.Rules.{rules}
 use Rattle.tc_header.proofs.PusTcSecondaryHeader.put.Goals as goal
 
 pub returns : goal.returns

@@ -6,7 +6,6 @@ use native.Mathlib.Omega.{arith}
 use lib.ListN.{drop, length-set}
 use lib.Seq.{sets-eq}
 use Rattle.ecss.proofs.Versions.{version-le}
-use borrow.Author.Rules.{rules}
 use Rattle.tc_header.proofs.PusTcSecondaryHeader.put_first.Goals as goal
 
 pub overflow_mul-buf : goal.overflow_mul-buf

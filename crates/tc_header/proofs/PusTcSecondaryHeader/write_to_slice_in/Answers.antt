@@ -4,7 +4,6 @@ use Rattle.space_packet.specs.Answer.{gives, check_answer}
 use Rattle.space_packet.proofs.Answers.{gives_then, refuses-then, left-refused, left-written}
 use Rattle.tc_header.specs.Header.{sec_write_in}
 use Rattle.tc_header.proofs.Checks.{asked-put}
-use borrow.Author.Rules.{rules}
 use Rattle.tc_header.proofs.PusTcSecondaryHeader.write_to_slice_in.Goals as goal
 
 pub returns-in-Err : goal.returns-in-Err

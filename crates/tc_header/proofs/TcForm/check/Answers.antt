@@ -3,7 +3,6 @@ use mathlib.Core.Bool.{not}
 use mathlib.Core.Path.{ap, sym, ◌∙◌}
 use borrow.Author.Tests.{not-true, not-false}
 use Rattle.tc_header.proofs.Forms.{form-passes, width-refused, spare-refused}
-use borrow.Author.Rules.{rules}
 use Rattle.tc_header.proofs.TcForm.check.Goals as goal
 
 pub returns-then-not-is_width : goal.returns-then-not-is_width

@@ -1,6 +1,5 @@
 -- `TcForm::check_source_id` meets its contract: no octet holds 0 alone, one up to 255, and two every value.
 use Rattle.tc_header.proofs.Forms.{source-wide, source-over, source_in}
-use borrow.Author.Rules.{rules}
 use Rattle.tc_header.proofs.TcForm.check_source_id.Goals as goal
 
 pub returns-then-n-gt1 : goal.returns-then-n-gt1

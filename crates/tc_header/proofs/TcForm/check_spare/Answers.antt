@@ -4,7 +4,6 @@ use mathlib.Core.Path.{sym, ap, ◌∙◌}
 use borrow.Author.Tests.{not-true, not-false}
 use Rattle.tc_header.specs.Form.{all_zero}
 use Rattle.tc_header.proofs.Spares.{spares-zero, spare-stands}
-use borrow.Author.Rules.{rules}
 use Rattle.tc_header.proofs.TcForm.check_spare.Goals as goal
 
 pub returns-then-not-all_zero : goal.returns-then-not-all_zero

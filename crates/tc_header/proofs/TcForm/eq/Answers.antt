@@ -1,6 +1,5 @@
 -- `TcForm::eq` meets its contract: the versions are tested by their numbers, then the widths and the spare lengths.
 use Rattle.tc_header.specs.Form.{same_form}
-use borrow.Author.Rules.{rules}
 use Rattle.tc_header.proofs.TcForm.eq.Goals as goal
 
 pub returns : goal.returns

@@ -3,7 +3,6 @@ use native.Mathlib.Omega.{arith}
 use lib.ListN.{length-set}
 use Rattle.tc_header.specs.Form.{source_len}
 use Rattle.tc_header.proofs.Forms.{put-none, put_one, put_two}
-use borrow.Author.Rules.{rules}
 use Rattle.tc_header.proofs.TcForm.put_source.Goals as goal
 
 pub bounds-buf-4 : goal.bounds-buf-4

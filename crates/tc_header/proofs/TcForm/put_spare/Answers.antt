@@ -1,10 +1,9 @@
 -- `TcForm::put_spare` meets its contract: zeros stand behind the first `at` octets, one more after each turn, and n - i falls.
-use Prim.Native.Nat.{ℕ, ◌-◌, ◌+◌, ◌≤◌}
+use Prim.Native.Nat.{ℕ}
 use mathlib.Core.Path.{◌≡◌, refl, ap₂, ◌∙◌}
 use native.Mathlib.Omega.{arith}
-use lib.ListN.{length, length-set}
+use lib.ListN.{length-set}
 use Rattle.tc_header.proofs.Spares.{zeroed, zero-none, zero-put}
-use borrow.Author.Rules.{rules}
 use Rattle.tc_header.proofs.TcForm.put_spare.Goals as goal
 
 pub loop-i-init : goal.loop-i-init

@@ -1,10 +1,8 @@
 -- `TcForm::put_spare` meets its contract: zeros stand behind the first `at` octets, one more after each turn, and n - i falls.
-use Prim.Native.Nat.{ℕ, ◌-◌, ◌+◌, ◌≤◌}
-use mathlib.Core.Path.{◌≡◌, refl, ap₂, ◌∙◌}
-use native.Mathlib.Omega.{arith}
-use lib.ListN.{length, length-set}
-use Rattle.tc_header.proofs.Spares.{zeroed, zero-none, zero-put}
-use borrow.Author.Rules.{rules}
+use Prim.Native.Nat.{◌-◌, ◌+◌, ◌≤◌}
+use mathlib.Core.Path.{◌≡◌}
+use lib.ListN.{length}
+use Rattle.tc_header.proofs.Spares.{zeroed}
 use Rattle.tc_header.proofs.TcForm.put_spare.Given as goal
 
 abbrev pub invariant-loop-i : goal.invariant-loop-i

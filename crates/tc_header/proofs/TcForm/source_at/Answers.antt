@@ -4,7 +4,6 @@ use mathlib.Core.Path.{◌≡◌, sym, ap, ◌∙◌}
 use native.Mathlib.Omega.{arith}
 use Rattle.tc_header.specs.Form.{source_len, source_at}
 use Rattle.tc_header.proofs.Forms.{wide_at}
-use borrow.Author.Rules.{rules}
 use Rattle.tc_header.proofs.TcForm.source_at.Goals as goal
 
 pub returns-then-n-gt1 : goal.returns-then-n-gt1

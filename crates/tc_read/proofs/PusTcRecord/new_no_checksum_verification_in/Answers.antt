@@ -4,7 +4,6 @@ use Rattle.space_packet.specs.Answer.{size_answer}
 use Rattle.space_packet.proofs.Answers.{gives_then, refuses-then}
 use Rattle.ecss.proofs.After.{frame_found, frame-given}
 use Rattle.tc_read.specs.Read.{read_in, record_answer}
-use borrow.Author.Rules.{rules}
 use Rattle.tc_read.proofs.PusTcRecord.new_no_checksum_verification_in.Goals as goal
 
 pub of-requires : goal.of-requires

@@ -6,7 +6,6 @@ use Rattle.space_packet.proofs.Answers.{never}
 use Rattle.tc_header.specs.Header.{sec_answer}
 use Rattle.tc_read.specs.declared.PusTcRecordResult.TheVariants as R
 use Rattle.tc_read.proofs.Records.{both_read, record-read}
-use borrow.Author.Rules.{rules}
 use Rattle.tc_read.proofs.PusTcRecord.of.Goals as goal
 
 pub returns-in-Err : goal.returns-in-Err

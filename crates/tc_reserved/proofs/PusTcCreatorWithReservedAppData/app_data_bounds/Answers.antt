@@ -1,5 +1,4 @@
 -- `PusTcCreatorWithReservedAppData::app_data_bounds` meets its contract: the reservation's bounds, from the form's start.
-use borrow.Author.Rules.{rules}
 use Rattle.tc_reserved.proofs.PusTcCreatorWithReservedAppData.app_data_bounds.Goals as goal
 
 pub returns : goal.returns

@@ -1,5 +1,4 @@
 -- `PusTcCreatorWithReservedAppData::app_data_mut` meets its contract: the reservation's part, from the form's start.
-use borrow.Author.Rules.{rules}
 use Rattle.tc_reserved.proofs.PusTcCreatorWithReservedAppData.app_data_mut.Goals as goal
 
 pub returns : goal.returns

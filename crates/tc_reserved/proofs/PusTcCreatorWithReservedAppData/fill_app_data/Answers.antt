@@ -1,5 +1,4 @@
 -- `PusTcCreatorWithReservedAppData::fill_app_data` meets its contract: the reservation's fill, from the form's start.
-use borrow.Author.Rules.{rules}
 use Rattle.tc_reserved.proofs.PusTcCreatorWithReservedAppData.fill_app_data.Goals as goal
 
 pub returns : goal.returns

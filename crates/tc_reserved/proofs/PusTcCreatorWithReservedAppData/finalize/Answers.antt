@@ -1,5 +1,4 @@
 -- `PusTcCreatorWithReservedAppData::finalize` meets its contract: the reservation's finish, from the form's start.
-use borrow.Author.Rules.{rules}
 use Rattle.tc_reserved.proofs.PusTcCreatorWithReservedAppData.finalize.Goals as goal
 
 pub returns : goal.returns

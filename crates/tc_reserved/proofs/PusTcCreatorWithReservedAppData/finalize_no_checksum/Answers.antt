@@ -1,5 +1,4 @@
 -- `PusTcCreatorWithReservedAppData::finalize_no_checksum` meets its contract: the reservation's, from the form's start.
-use borrow.Author.Rules.{rules}
 use Rattle.tc_reserved.proofs.PusTcCreatorWithReservedAppData.finalize_no_checksum.Goals as goal
 
 pub returns : goal.returns

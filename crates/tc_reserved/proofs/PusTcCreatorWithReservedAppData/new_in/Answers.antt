@@ -8,7 +8,6 @@ use Rattle.ecss_write.proofs.Calls.{reserve-answer, reserve-left}
 use Rattle.tc_write.specs.Command.{command_in}
 use Rattle.tc_write.proofs.Command.{hands}
 use Rattle.tc_reserved.specs.Reserved.{reservation_in}
-use borrow.Author.Rules.{rules}
 use Rattle.tc_reserved.proofs.PusTcCreatorWithReservedAppData.new_in.Goals as goal
 
 pub returns : goal.returns

@@ -6,7 +6,6 @@ use Rattle.ecss_write.specs.Write.{as_type}
 use Rattle.tc_header.specs.Header.{sec_from}
 use Rattle.tc_write.specs.Creator.{creator_in}
 use Rattle.tc_write.specs.Builder.{builder_of, default_builder}
-use borrow.Author.Rules.{rules}
 use Rattle.tc_write.proofs.PusTcBuilder.defaults.Goals as goal
 
 pub returns : goal.returns

@@ -2,7 +2,6 @@
 use mathlib.Core.Path.{◌∙◌}
 use Rattle.tc_write.specs.Builder.{builder_of}
 use Rattle.ecss_write.proofs.Calls.{edit-in}
-use borrow.Author.Rules.{rules}
 use Rattle.tc_write.proofs.PusTcBuilder.with_apid.Goals as goal
 
 pub returns : goal.returns

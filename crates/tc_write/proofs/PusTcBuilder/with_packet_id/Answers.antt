@@ -5,7 +5,6 @@ use Rattle.space_packet.specs.Header.{with_id}
 use Rattle.tc_write.specs.Creator.{with_header}
 use Rattle.tc_write.specs.Builder.{builder_of}
 use Rattle.ecss_write.proofs.Calls.{edit-in}
-use borrow.Author.Rules.{rules}
 use Rattle.tc_write.proofs.PusTcBuilder.with_packet_id.Goals as goal
 
 pub returns : goal.returns

@@ -3,7 +3,6 @@ use mathlib.Core.Path.{◌∙◌, ap₂}
 use Rattle.space_packet.specs.Answer.{set_if}
 use Rattle.tc_write.specs.Builder.{builder_of}
 use Rattle.ecss_write.proofs.Calls.{edit-in}
-use borrow.Author.Rules.{rules}
 use Rattle.tc_write.proofs.PusTcBuilder.with_packet_sequence_control.Goals as goal
 
 pub returns : goal.returns

@@ -4,7 +4,6 @@ use Rattle.ecss.specs.Version.{message_type_of}
 use Rattle.tc_header.specs.Header.{sec_from}
 use Rattle.tc_write.specs.Creator.{with_sec}
 use Rattle.tc_write.specs.Builder.{builder_of}
-use borrow.Author.Rules.{rules}
 use Rattle.tc_write.proofs.PusTcBuilder.with_service_type_id.Goals as goal
 
 pub returns : goal.returns

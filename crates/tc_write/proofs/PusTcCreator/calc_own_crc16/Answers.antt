@@ -5,7 +5,6 @@ use lib.ListN.{replicate}
 use Rattle.ecss_write.proofs.Calls.{own}
 use Rattle.tc_write.specs.Command.{command_in}
 use Rattle.tc_write.proofs.Command.{hands}
-use borrow.Author.Rules.{rules}
 use Rattle.tc_write.proofs.PusTcCreator.calc_own_crc16.Goals as goal
 
 pub returns : goal.returns

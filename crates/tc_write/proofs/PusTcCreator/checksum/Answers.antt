@@ -3,7 +3,6 @@ use mathlib.Core.Path.{◌∙◌, sym}
 use borrow.Author.Tests.{not-false, not-true}
 use Rattle.space_packet.proofs.Answers.{then-of}
 use Rattle.ecss_write.proofs.Calls.{checksum-none, checksum-own}
-use borrow.Author.Rules.{rules}
 use Rattle.tc_write.proofs.PusTcCreator.checksum.Goals as goal
 
 pub returns-then-not-self : goal.returns-then-not-self

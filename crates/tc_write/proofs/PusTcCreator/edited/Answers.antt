@@ -2,7 +2,6 @@
 use mathlib.Core.Path.{ap}
 use Rattle.space_packet.specs.Answer.{check_answer}
 use Rattle.tc_write.specs.declared.PusTcCreator.{PusTcCreator}
-use borrow.Author.Rules.{rules}
 use Rattle.tc_write.proofs.PusTcCreator.edited.Goals as goal
 
 pub returns : goal.returns

@@ -3,7 +3,6 @@ use mathlib.Core.Path.{ap₂}
 use mathlib.Core.Bool.{◌&&◌}
 use Rattle.space_packet.proofs.Numbers.{beq-flag}
 use Rattle.tc_write.specs.Creator.{same_creator}
-use borrow.Author.Rules.{rules}
 use Rattle.tc_write.proofs.PusTcCreator.eq.Goals as goal
 
 pub returns : goal.returns

@@ -4,7 +4,6 @@ use lib.ListN.{length}
 use Rattle.space_packet.specs.Answer.{check_answer}
 use Rattle.space_packet.proofs.Answers.{gives_then, refuses-then}
 use Rattle.ecss_write.specs.Write.{machine_total}
-use borrow.Author.Rules.{rules}
 use Rattle.tc_write.proofs.PusTcCreator.len_written.Goals as goal
 
 pub returns-in-Err : goal.returns-in-Err

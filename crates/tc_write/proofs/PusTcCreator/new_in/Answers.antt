@@ -4,7 +4,6 @@ use lib.ListN.{length}
 use Rattle.space_packet.proofs.Answers.{then-of}
 use Rattle.ecss_write.proofs.Calls.{new_is}
 use Rattle.tc_write.specs.Command.{command_in}
-use borrow.Author.Rules.{rules}
 use Rattle.tc_write.proofs.PusTcCreator.new_in.Goals as goal
 
 pub returns : goal.returns

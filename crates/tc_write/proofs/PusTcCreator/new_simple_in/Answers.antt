@@ -2,7 +2,6 @@
 use mathlib.Core.Path.{◌∙◌, ap}
 use lib.ListN.{length}
 use Rattle.tc_write.specs.Creator.{new_in}
-use borrow.Author.Rules.{rules}
 use Rattle.tc_write.proofs.PusTcCreator.new_simple_in.Goals as goal
 
 pub returns : goal.returns

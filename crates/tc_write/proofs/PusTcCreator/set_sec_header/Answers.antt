@@ -1,6 +1,5 @@
 -- `PusTcCreator::set_sec_header` meets its contract: the check of what is handed in, and the creator with it.
 use Rattle.ecss_write.proofs.Calls.{kept_by}
-use borrow.Author.Rules.{rules}
 use Rattle.tc_write.proofs.PusTcCreator.set_sec_header.Goals as goal
 
 pub returns : goal.returns

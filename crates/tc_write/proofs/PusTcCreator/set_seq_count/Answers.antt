@@ -2,7 +2,6 @@
 use mathlib.Core.Path.{◌∙◌}
 use Rattle.tc_write.specs.Creator.{with_header}
 use Rattle.ecss_write.proofs.Calls.{edit-in}
-use borrow.Author.Rules.{rules}
 use Rattle.tc_write.proofs.PusTcCreator.set_seq_count.Goals as goal
 
 pub returns : goal.returns

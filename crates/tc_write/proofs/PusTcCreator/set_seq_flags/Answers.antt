@@ -1,7 +1,6 @@
 -- `PusTcCreator::set_seq_flags` meets its contract: the header's own edit, in the creator that holds it.
 use mathlib.Core.Path.{◌∙◌, ap}
 use Rattle.tc_write.specs.Creator.{with_header}
-use borrow.Author.Rules.{rules}
 use Rattle.tc_write.proofs.PusTcCreator.set_seq_flags.Goals as goal
 
 pub returns : goal.returns

@@ -1,6 +1,5 @@
 -- `PusTcCreator::set_source_id` meets its contract: the check of what is handed in, and the creator with it.
 use Rattle.ecss_write.proofs.Calls.{kept_by}
-use borrow.Author.Rules.{rules}
 use Rattle.tc_write.proofs.PusTcCreator.set_source_id.Goals as goal
 
 pub returns : goal.returns

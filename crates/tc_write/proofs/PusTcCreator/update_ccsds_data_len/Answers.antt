@@ -5,7 +5,6 @@ use Rattle.ecss_write.specs.Write.{kept_with}
 use Rattle.ecss_write.proofs.Calls.{afresh}
 use Rattle.tc_write.specs.Command.{command_in}
 use Rattle.tc_write.specs.Creator.{with_header}
-use borrow.Author.Rules.{rules}
 use Rattle.tc_write.proofs.PusTcCreator.update_ccsds_data_len.Goals as goal
 
 pub returns : goal.returns

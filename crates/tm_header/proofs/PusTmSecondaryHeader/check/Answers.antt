@@ -3,7 +3,6 @@ use mathlib.Core.Path.{sym, ap, ◌∙◌}
 use Rattle.space_packet.specs.Answer.{check_answer}
 use Rattle.space_packet.proofs.Answers.{no_room, has_room}
 use Rattle.tm_header.proofs.Checks.{checks-time, checks-fields, checks-no-room, checks-version}
-use borrow.Author.Rules.{rules}
 use Rattle.tm_header.proofs.PusTmSecondaryHeader.check.Goals as goal
 
 pub returns-in_default : goal.returns-in_default

@@ -1,6 +1,5 @@
 -- `PusTmSecondaryHeader::eq` meets its contract: each field is tested, and the versions by their numbers.
 use Rattle.tm_header.specs.Header.{same_sec}
-use borrow.Author.Rules.{rules}
 use Rattle.tm_header.proofs.PusTmSecondaryHeader.eq.Goals as goal
 
 pub returns : goal.returns

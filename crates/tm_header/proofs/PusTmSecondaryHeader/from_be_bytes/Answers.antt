@@ -6,7 +6,6 @@ use Rattle.space_packet.specs.Answer.{gives, check_answer}
 use Rattle.space_packet.proofs.Answers.{gives_then, refuses-then, too_few, enough}
 use Rattle.ecss.specs.declared.PusVersion.TheVariants.{PusC}
 use Rattle.tm_header.specs.Header.{sec_from, sec_read, fields_of}
-use borrow.Author.Rules.{rules}
 use Rattle.tm_header.proofs.PusTmSecondaryHeader.from_be_bytes.Goals as goal
 
 pub returns-in-Err : goal.returns-in-Err

@@ -7,7 +7,6 @@ use lib.ListN.{drop, length-set}
 use lib.Seq.{sets-eq}
 use Rattle.space_packet.specs.Bits.{be16}
 use Rattle.ecss.proofs.Versions.{version-le}
-use borrow.Author.Rules.{rules}
 use Rattle.tm_header.proofs.PusTmSecondaryHeader.put.Goals as goal
 
 pub overflow_mul-buf : goal.overflow_mul-buf

@@ -9,7 +9,6 @@ use Rattle.space_packet.proofs.Answers.{gives_then, refuses-then, left-refused, 
 use Rattle.ecss_write.proofs.Over.{over-more}
 use Rattle.tm_header.specs.Header.{field_octets, tm_octets, sec_write}
 use Rattle.tm_header.proofs.Checks.{asked-put}
-use borrow.Author.Rules.{rules}
 use Rattle.tm_header.proofs.PusTmSecondaryHeader.write_to_slice.Goals as goal
 
 pub returns-in-Err : goal.returns-in-Err

@@ -4,7 +4,6 @@ use Rattle.space_packet.specs.Answer.{size_answer}
 use Rattle.space_packet.proofs.Answers.{gives_then, refuses-then}
 use Rattle.ecss.proofs.After.{checked-found, checked-given}
 use Rattle.tm_read.specs.Read.{checked_in, record_answer}
-use borrow.Author.Rules.{rules}
 use Rattle.tm_read.proofs.PusTmRecord.new.Goals as goal
 
 pub of-requires : goal.of-requires

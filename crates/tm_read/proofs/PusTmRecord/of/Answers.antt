@@ -6,7 +6,6 @@ use Rattle.space_packet.proofs.Answers.{never}
 use Rattle.tm_header.specs.Header.{sec_answer}
 use Rattle.tm_read.specs.declared.PusTmRecordResult.TheVariants as R
 use Rattle.tm_read.proofs.Records.{both_read, record-read}
-use borrow.Author.Rules.{rules}
 use Rattle.tm_read.proofs.PusTmRecord.of.Goals as goal
 
 pub returns-in-Err : goal.returns-in-Err

@@ -1,5 +1,4 @@
 -- `PusTmCreatorWithReservedSourceData::new` meets its contract: the shared reservation of its checks and its encoded header.
-use Prim.Native.Nat.{ℕ}
 use mathlib.Core.Path.{refl, ◌∙◌}
 use native.Mathlib.Omega.{arith}
 use lib.ListN.{length, replicate}

@@ -4,7 +4,6 @@ use borrow.Author.Tests.{not-false, not-true}
 use Rattle.space_packet.specs.Answer.{check_answer}
 use Rattle.space_packet.proofs.Answers.{gives_then, refuses-then, then-of}
 use Rattle.ecss_write.proofs.Calls.{checksum-none, checksum-own}
-use borrow.Author.Rules.{rules}
 use Rattle.tm_write.proofs.PusTmCreator.checksum.Goals as goal
 
 pub returns-in-Err : goal.returns-in-Err

@@ -2,7 +2,6 @@
 use mathlib.Core.Path.{ap}
 use Rattle.space_packet.specs.Answer.{check_answer}
 use Rattle.tm_write.specs.declared.PusTmCreator.{PusTmCreator}
-use borrow.Author.Rules.{rules}
 use Rattle.tm_write.proofs.PusTmCreator.edited.Goals as goal
 
 pub returns : goal.returns

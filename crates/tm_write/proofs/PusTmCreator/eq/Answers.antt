@@ -4,7 +4,6 @@ use mathlib.Core.Bool.{◌&&◌}
 use lib.Dec.{eqb}
 use Rattle.space_packet.proofs.Numbers.{beq-flag}
 use Rattle.tm_write.specs.Creator.{same_creator}
-use borrow.Author.Rules.{rules}
 use Rattle.tm_write.proofs.PusTmCreator.eq.Goals as goal
 
 pub returns : goal.returns

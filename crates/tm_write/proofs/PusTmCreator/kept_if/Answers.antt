@@ -2,7 +2,6 @@
 use Rattle.space_packet.proofs.Answers.{kept_new, kept-old}
 use Rattle.space_packet.specs.Answer.{check_answer}
 use mathlib.Core.Path.{ap, refl}
-use borrow.Author.Rules.{rules}
 use Rattle.tm_write.proofs.PusTmCreator.kept_if.Goals as goal
 
 pub returns-in-Err : goal.returns-in-Err

@@ -5,7 +5,6 @@ use Rattle.space_packet.proofs.Answers.{then-of}
 use Rattle.ecss_write.proofs.Calls.{new_is}
 use Rattle.tm_header.specs.Header.{timed}
 use Rattle.tm_write.specs.Report.{report_by}
-use borrow.Author.Rules.{rules}
 use Rattle.tm_write.proofs.PusTmCreator.new.Goals as goal
 
 pub returns : goal.returns

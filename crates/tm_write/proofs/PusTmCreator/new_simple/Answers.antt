@@ -2,7 +2,6 @@
 use mathlib.Core.Path.{◌∙◌, ap}
 use lib.ListN.{length}
 use Rattle.tm_write.specs.Creator.{new_of}
-use borrow.Author.Rules.{rules}
 use Rattle.tm_write.proofs.PusTmCreator.new_simple.Goals as goal
 
 pub returns : goal.returns

@@ -6,7 +6,6 @@ use Rattle.ecss_write.proofs.Calls.{put-wrote}
 use Rattle.tm_write.specs.Report.{report_by}
 use Rattle.tm_write.specs.Creator.{header_with}
 use Rattle.tm_write.proofs.Report.{hands}
-use borrow.Author.Rules.{rules}
 use Rattle.tm_write.proofs.PusTmCreator.put.Goals as goal
 
 pub returns : goal.returns

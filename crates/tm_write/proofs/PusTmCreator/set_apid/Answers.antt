@@ -2,7 +2,6 @@
 use mathlib.Core.Path.{◌∙◌}
 use Rattle.ecss_write.proofs.Calls.{edit-in}
 use Rattle.tm_write.specs.Creator.{with_header}
-use borrow.Author.Rules.{rules}
 use Rattle.tm_write.proofs.PusTmCreator.set_apid.Goals as goal
 
 pub returns : goal.returns

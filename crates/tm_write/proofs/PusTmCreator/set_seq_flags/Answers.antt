@@ -1,7 +1,6 @@
 -- `PusTmCreator::set_seq_flags` meets its contract: the header's own edit, in the creator that holds it.
 use mathlib.Core.Path.{◌∙◌, ap}
 use Rattle.tm_write.specs.Creator.{with_header}
-use borrow.Author.Rules.{rules}
 use Rattle.tm_write.proofs.PusTmCreator.set_seq_flags.Goals as goal
 
 pub returns : goal.returns

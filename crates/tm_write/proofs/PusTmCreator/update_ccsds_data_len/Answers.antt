@@ -5,7 +5,6 @@ use Rattle.ecss_write.specs.Write.{kept_with}
 use Rattle.ecss_write.proofs.Calls.{afresh}
 use Rattle.tm_write.specs.Report.{report_by}
 use Rattle.tm_write.specs.Creator.{header_with, with_header}
-use borrow.Author.Rules.{rules}
 use Rattle.tm_write.proofs.PusTmCreator.update_ccsds_data_len.Goals as goal
 
 pub returns : goal.returns

@@ -1,6 +1,5 @@
 -- `Entry::closes` meets its contract: a report that ends its command, or the last that was asked for.
 use mathlib.Core.Path.{sym, ◌∙◌}
-use borrow.Author.Rules.{rules}
 use Rattle.tracker.proofs.Entry.closes.Goals as goal
 
 pub returns-then-ends : goal.returns-then-ends

@@ -1,5 +1,4 @@
 -- `Entry::noted` meets its contract: each kind as it was, or come now.
-use borrow.Author.Rules.{rules}
 use Rattle.tracker.proofs.Entry.noted.Goals as goal
 
 pub returns : goal.returns

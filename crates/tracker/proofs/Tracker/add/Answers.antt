@@ -1,7 +1,6 @@
 -- `Tracker::add` meets its contract: the place behind those in use is set.
 use native.Mathlib.Omega.{arith}
 use Rattle.tracker.proofs.Entries.{add_is}
-use borrow.Author.Rules.{rules}
 use Rattle.tracker.proofs.Tracker.add.Goals as goal
 
 pub returns : goal.returns

@@ -2,12 +2,9 @@
 use Rattle.tracker.proofs.Entries.{left_end}
 use Prim.Native.Nat.{◌<◌}
 use native.Mathlib.Omega.{arith}
-use mathlib.Core.Path.{◌≡◌, refl}
-use Prim.Native.Nat.{◌≤◌, ◌-◌}
-use lib.ListN.{take}
+use mathlib.Core.Path.{refl}
 use Rattle.tracker.specs.Open.{holding, left}
-use Rattle.tracker.proofs.Entries.{places_of, left-room, left_step}
-use borrow.Author.Rules.{rules}
+use Rattle.tracker.proofs.Entries.{left-room, left_step}
 use Rattle.tracker.proofs.Tracker.after.Goals as goal
 
 pub loop-i-init : goal.loop-i-init

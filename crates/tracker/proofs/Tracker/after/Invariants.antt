@@ -1,13 +1,9 @@
 -- `Tracker::after` meets its contract: each turn leaves what the report leaves of one more entry.
-use Rattle.tracker.proofs.Entries.{left_end}
-use Prim.Native.Nat.{◌<◌}
-use native.Mathlib.Omega.{arith}
-use mathlib.Core.Path.{◌≡◌, refl}
+use mathlib.Core.Path.{◌≡◌}
 use Prim.Native.Nat.{◌≤◌, ◌-◌}
 use lib.ListN.{take}
 use Rattle.tracker.specs.Open.{holding, left}
-use Rattle.tracker.proofs.Entries.{places_of, left-room, left_step}
-use borrow.Author.Rules.{rules}
+use Rattle.tracker.proofs.Entries.{places_of}
 use Rattle.tracker.proofs.Tracker.after.Given as goal
 
 abbrev pub invariant-loop-i : goal.invariant-loop-i

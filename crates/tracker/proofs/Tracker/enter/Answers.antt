@@ -6,7 +6,6 @@ use Prim.Native.Nat.{◌≤◌, ◌<◌}
 use Rattle.tracker.specs.Open.{ids_of, entries_of}
 use Rattle.tracker.proofs.Entries.{ids-length}
 use Rattle.tracker.proofs.Checks.{taken_is, refused-is, open-nothing, opened_nothing, opened-new, open-already, open_full, open-new}
-use borrow.Author.Rules.{rules}
 use Rattle.tracker.proofs.Tracker.enter.Goals as goal
 
 pub returns-then-asked-eq0 : goal.returns-then-asked-eq0

@@ -1,9 +1,6 @@
 -- `Tracker::is_open` meets its contract: the request is among those from the place i on as it is among all.
-use Prim.Native.Nat.{◌≤◌, ◌-◌}
-use mathlib.Core.Path.{◌≡◌, refl, sym, ap, ◌∙◌}
+use mathlib.Core.Path.{refl, sym, ap, ◌∙◌}
 use native.Mathlib.Omega.{arith}
-use lib.ListN.{take, drop}
-use borrow.Author.Rules.{rules}
 use Rattle.tracker.specs.Refusals.{among}
 use Rattle.tracker.specs.Open.{ids_of}
 use Rattle.tracker.proofs.Entries.{among-here, among-on, among-end, long}

@@ -1,7 +1,7 @@
 -- `Tracker::leave` meets its contract: an entry of another request, one that closes, one that stays.
 use mathlib.Core.Path.{◌≡◌, sym, ap, ◌∙◌}
 use mathlib.Core.List.{[], ◌∷◌, ◌++◌}
-use lib.ListN.{length, length-map}
+use lib.ListN.{length}
 use Rattle.space_packet.specs.Bits.{pick}
 use Rattle.tracker.specs.Open.{entries_of, holding}
 use Rattle.tracker.proofs.Entries.{left_other, left-own, holding-same}

@@ -1,6 +1,5 @@
 -- `Tracker::open_at` meets its contract: the request of the entry at that place, where it is in use.
 use Rattle.tracker.proofs.Entries.{request-here, request-none}
-use borrow.Author.Rules.{rules}
 use Rattle.tracker.proofs.Tracker.open_at.Goals as goal
 
 pub returns-then-i-used : goal.returns-then-i-used

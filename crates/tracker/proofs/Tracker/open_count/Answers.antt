@@ -1,7 +1,6 @@
 -- `Tracker::open_count` meets its contract: as many requests as entries.
 use mathlib.Core.Path.{sym, ◌∙◌}
 use Rattle.tracker.proofs.Entries.{ids-length}
-use borrow.Author.Rules.{rules}
 use Rattle.tracker.proofs.Tracker.open_count.Goals as goal
 
 pub returns : goal.returns

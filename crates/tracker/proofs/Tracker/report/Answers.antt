@@ -3,7 +3,6 @@ use mathlib.Core.Path.{sym, ap, ◌∙◌}
 use Rattle.tm_strict.specs.Verdict.{verdict_answer}
 use Rattle.tracker.specs.Open.{report_to}
 use Rattle.tracker.proofs.Checks.{refused-is, check-refused, report-refused, report-read}
-use borrow.Author.Rules.{rules}
 use Rattle.tracker.proofs.Tracker.report.Goals as goal
 
 pub returns-in-Refused : goal.returns-in-Refused

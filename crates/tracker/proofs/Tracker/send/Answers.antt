@@ -3,7 +3,6 @@ use mathlib.Core.Path.{sym, ap, ◌∙◌}
 use Rattle.tc_strict.specs.Verdict.{verdict_answer}
 use Rattle.tracker.specs.Open.{send_of}
 use Rattle.tracker.proofs.Checks.{refused-is, send-refused, sent_is}
-use borrow.Author.Rules.{rules}
 use Rattle.tracker.proofs.Tracker.send.Goals as goal
 
 pub returns-in-Refused : goal.returns-in-Refused

@@ -3,8 +3,6 @@ use Rattle.tracker.specs.Refusals.{among}
 use Rattle.tracker.specs.Open.{report_to, ids_of, entries_of, holding, left, left_by}
 use Rattle.tracker.proofs.Checks.{taken_is, refused-is, report-none, report-some, check-refused, check-closed, check-open}
 use mathlib.Core.Path.{sym, ap, ◌∙◌}
-use borrow.Author.Tests.{not-true, not-false}
-use borrow.Author.Rules.{rules}
 use Rattle.tracker.proofs.Tracker.told.Goals as goal
 
 pub returns-then-not-is_report : goal.returns-then-not-is_report

@@ -5,7 +5,6 @@ use mathlib.Core.Path.{sym, ap, ◌∙◌}
 use lib.Seq.{length-take-le}
 use Rattle.tc_strict.specs.Split.{step_answer}
 use Rattle.tc_strict.proofs.Pieces.{rest-is, too_short, cut_off, whole, step_end, step-tail, step-packet}
-use borrow.Author.Rules.{rules}
 use Rattle.tc_strict.proofs.split.Cursor.step_in.Goals as goal
 
 pub returns-then-n-at : goal.returns-then-n-at
