@@ -25,7 +25,7 @@ module _ (bs : List Bool) (h : length bs ≤ 8 * near_octets) (f : UpToThree bs)
   by_number (suc (suc (suc zero))) e = odd (omega arith)
   by_number (suc (suc (suc (suc n)))) e = absurd (omega (arith, e, f.three))
 
-  up-to-three-detected : Detected bs
+  pub up-to-three-detected : Detected bs
   up-to-three-detected = by_number (ones bs) refl
 
 bits-length : (s : List ℕ) → length (bits_of s) ≡ 8 * length s

@@ -67,28 +67,28 @@ octet-six n s h = get_or-take n (drop 6 s) 0 0 h ∙ get_or-drop 6 s 0 0
 -- ---- the verdict, which reports g of the total
 
 module _ {H R : Type 0} (first : Passed) (k : Kind H) (s : List ℕ) (g : ℕ → R) where
-  abbrev pub verdictAfter : Answer R
-  verdictAfter = first then λ _. judge k s then λ _. gives (g (stated_of s))
+  abbrev pub verdict_after : Answer R
+  verdict_after = first then λ _. judge k s then λ _. gives (g (stated_of s))
 
-  by_first : (a : Passed) (e : Numbers) → first ≡ a → (a then λ _. checked_of (start_of k) s) ≡ refuses e → verdictAfter ≡ refuses e
+  by_first : (a : Passed) (e : Numbers) → first ≡ a → (a then λ _. checked_of (start_of k) s) ≡ refuses e → verdict_after ≡ refuses e
   unfolding judge ◌then◌
   by_first (refuses d) e i p = rw i (ap refuses (refuses-inj d e p))
   by_first (gives u) e i p = rw (i, p) refl
 
   -- where the reader refuses, the verdict is its refusal
-  pub verdict-refused : (e : Numbers) → checked_after first (start_of k) s ≡ refuses e → verdictAfter ≡ refuses e
+  pub verdict-refused : (e : Numbers) → checked_after first (start_of k) s ≡ refuses e → verdict_after ≡ refuses e
   unfolding checked_after
   verdict-refused e p = by_first first e refl p
 
   -- where it takes n octets, the verdict is the strict checks'; by their answer, not by how the definition goes through them
   taken-ruled : (n : ℕ) (a : Passed) → first ≡ gives tt → checked_of (start_of k) s ≡ gives n → strict_rule k (read_header s) (secondary_of k.size s) ≡ a
-      → verdictAfter ≡ (a then λ _. gives (g (stated_of s)))
+      → verdict_after ≡ (a then λ _. gives (g (stated_of s)))
   unfolding judge ◌then◌
   taken-ruled n (gives u) i p q = rw (i, p, q) refl
   taken-ruled n (refuses e) i p q = rw (i, p, q) refl
 
   pub verdict-ruled : (n : ℕ) → checked_after first (start_of k) s ≡ gives n
-      → verdictAfter ≡ (strict_rule k (read_header s) (secondary_of k.size s) then λ _. gives (g n))
+      → verdict_after ≡ (strict_rule k (read_header s) (secondary_of k.size s) then λ _. gives (g n))
   unfolding checked_after
   verdict-ruled n p =
       let q = then-gives first _ n p in

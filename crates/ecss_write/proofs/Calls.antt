@@ -18,7 +18,7 @@ use Rattle.ecss.specs.declared.Crc16.TheVariants.{Some, None}
 use Rattle.ecss_write.specs.Write.{total_for, Asked, asks_answer, asked, asked_by, write_with, bare_with, put_with, put_octets, reserve_with, own_with, checksum_with, field_with, made_with, afresh_with, with_length, kept_with, headed_at}
 use Rattle.ecss_write.specs.declared.packet.Asks.{Asks}
 use Rattle.ecss_write.proofs.Written.{write-by-room, reserve-by-room, writes, reserves}
-use Rattle.ecss_write.specs.Writer.{Writer, start_by, asked_of, contentBy, octets_by, asKind, checkBy, newBy, afreshBy, writeBy, bareBy, PutWrote, ownBy, reserveBy, headBy, headedBy}
+use Rattle.ecss_write.specs.Writer.{Writer, start_by, asked_of, content_by, octets_by, as_kind, check_by, new_by, afresh_by, write_by, bare_by, PutWrote, own_by, reserve_by, head_by, headed_by}
 
 -- what an edition hands over: the three checks, and the octets s of its secondary header, which are such where it is not refused
 pub record Hands {H : Type 0} (w : Writer H) (x : H) (a : Asks) (s : List ℕ) : Type 0 where
@@ -72,36 +72,36 @@ headed-same i j (refuses e) p q l f = refl
 headed-same i j (gives n) p q l f = ap₂ (λ (k : ℕ) (z : List ℕ). headed_at k (gives n) z l) (f n refl).0 (f n refl).1
 
 module _ {H : Type 0} (w : Writer H) (h : SpacePacketHeader) (x : H) (a : Asks) (s : List ℕ) (k : Hands w x a s) where
-  asked_is : asked_by a h ≡ checkBy w h x
+  asked_is : asked_by a h ≡ check_by w h x
   asked_is = ap (λ (z : Asked). asked z.first h z.fields) k.asks-is
 
-  content-is : (d : List ℕ) → s ≡ w.kind.enc x → header_octets h ++ s ++ d ≡ contentBy w h x d
+  content-is : (d : List ℕ) → s ≡ w.kind.enc x → header_octets h ++ s ++ d ≡ content_by w h x d
   unfolding content_of
   content-is d e = append_assoc (header_octets h) s d ∙ ap (λ (z : List ℕ). header_octets h ++ (z ++ d)) e
 
-  coded_by : checkBy w h x ≡ gives tt → w.version x ≡ gives tt → s ≡ w.kind.enc x
+  coded_by : check_by w h x ≡ gives tt → w.version x ≡ gives tt → s ≡ w.kind.enc x
   coded_by p v =
       let c = then-gives (w.first x) _ tt p in
       k.coded c.1 (then-gives (header_check h) _ tt c.2).2 v
 
-  write-is : (b : Bool) (n m : ℕ) → write_with (asked_by a h) (check_answer a.version) (6 + length s) b n m ≡ writeBy w h x b n m
+  write-is : (b : Bool) (n m : ℕ) → write_with (asked_by a h) (check_answer a.version) (6 + length s) b n m ≡ write_by w h x b n m
   write-is b n m =
       ap₂ (λ (p v : Passed). write_with p v (6 + length s) b n m) asked_is (ap (λ (z : Asked). z.version) k.asks-is)
       ∙ write-start (w.first x) _ (w.version x) (6 + length s) (start_by w) b n m (λ p. ap (λ (z : ℕ). 6 + z) (k.sized p))
 
-  reserve-is : (b : Bool) (n m : ℕ) → reserve_with (asked_by a h) (check_answer a.version) (6 + length s) b n m ≡ reserveBy w h x b n m
+  reserve-is : (b : Bool) (n m : ℕ) → reserve_with (asked_by a h) (check_answer a.version) (6 + length s) b n m ≡ reserve_by w h x b n m
   reserve-is b n m =
       ap₂ (λ (p v : Passed). reserve_with p v (6 + length s) b n m) asked_is (ap (λ (z : Asked). z.version) k.asks-is)
       ∙ reserve-start (w.first x) _ (w.version x) (6 + length s) (start_by w) b n m (λ p. ap (λ (z : ℕ). 6 + z) (k.sized p))
 
-  write-coded : (b : Bool) (n m total : ℕ) → writeBy w h x b n m ≡ gives total → s ≡ w.kind.enc x
+  write-coded : (b : Bool) (n m total : ℕ) → write_by w h x b n m ≡ gives total → s ≡ w.kind.enc x
   write-coded b n m total p = let u = writes _ _ (start_by w) b n m total p in coded_by u.before-passed u.after-passed
 
   -- ---- the calls
 
   module _ (b : Bool) (d l m : List ℕ) (r : SizeResult) where
     wrote : Wrote (write_with (asked_by a h) (check_answer a.version) (6 + length s) b (length d) (length l)) (closed b (header_octets h ++ s ++ d)) l r m
-        → Wrote (writeBy w h x b (length d) (length l)) (octets_by w h x b d) l r m
+        → Wrote (write_by w h x b (length d) (length l)) (octets_by w h x b d) l r m
     wrote u =
         let e = write-is b (length d) (length l) in
         record {
@@ -112,14 +112,14 @@ module _ {H : Type 0} (w : Writer H) (h : SpacePacketHeader) (x : H) (a : Asks) 
         }
 
     wrote-bare : Wrote (bare_with (asked_by a h) (check_answer a.version) (6 + length s) b (length d) (length l)) (header_octets h ++ s ++ d) l r m
-        → Wrote (bareBy w h x b (length d) (length l)) (contentBy w h x d) l r m
+        → Wrote (bare_by w h x b (length d) (length l)) (content_by w h x d) l r m
     wrote-bare u =
         let e = ap (λ (z : Answer ℕ). z then λ total. gives (total - trailer b)) (write-is b (length d) (length l)) in
         record {
           answered = u.answered ∙ e;
           left =
               u.left ∙ ap (λ (z : Answer ℕ). left_by z (header_octets h ++ s ++ d) l) e
-              ∙ left-same (bareBy w h x b (length d) (length l)) _ _ l (λ n p. let q = then-gives (writeBy w h x b (length d) (length l)) (λ total. gives (total - trailer b)) n p in content-is d (write-coded b (length d) (length l) q.0 q.1));
+              ∙ left-same (bare_by w h x b (length d) (length l)) _ _ l (λ n p. let q = then-gives (write_by w h x b (length d) (length l)) (λ total. gives (total - trailer b)) n p in content-is d (write-coded b (length d) (length l) q.0 q.1));
         }
 
     pub put-wrote : (bare : Bool)
@@ -134,13 +134,13 @@ module _ {H : Type 0} (w : Writer H) (h : SpacePacketHeader) (x : H) (a : Asks) 
   own_same (gives u) (refuses e) o q f = refl
   own_same (gives u) (gives t) o q f = ap (own_with (gives u) (gives t)) (f refl refl)
 
-  pub own : (d : List ℕ) → own_with (asked_by a h) (check_answer a.version) (header_octets h ++ s ++ d) ≡ ownBy w h x d
+  pub own : (d : List ℕ) → own_with (asked_by a h) (check_answer a.version) (header_octets h ++ s ++ d) ≡ own_by w h x d
   own d =
       ap₂ (λ (p v : Passed). own_with p v (header_octets h ++ s ++ d)) asked_is (ap (λ (z : Asked). z.version) k.asks-is)
-      ∙ own_same (checkBy w h x) (w.version x) _ _ (λ p v. content-is d (coded_by p v))
+      ∙ own_same (check_by w h x) (w.version x) _ _ (λ p v. content-is d (coded_by p v))
 
   pub headed : (b : Bool) (n : ℕ) (l m : List ℕ) → m ≡ headed_at (6 + length s) (reserve_with (asked_by a h) (check_answer a.version) (6 + length s) b n (length l)) (header_octets (with_length h (total_for (6 + length s) b n - 7)) ++ s) l
-      → m ≡ headed_at (start_by w) (reserveBy w h x b n (length l)) (contentBy w (with_length h (total_for (start_by w) b n - 7)) x []) l
+      → m ≡ headed_at (start_by w) (reserve_by w h x b n (length l)) (content_by w (with_length h (total_for (start_by w) b n - 7)) x []) l
   unfolding content_of
   headed b n l m u =
       let o : ℕ → List ℕ = λ z. header_octets (with_length h (total_for z b n - 7)) in
@@ -160,30 +160,30 @@ afresh-start (refuses e) rest i j b n h p = refl
 afresh-start (gives u) rest i j b n h p = ap (λ (k : ℕ). afresh_with (rest u) k b n h) (p refl)
 
 module _ {H : Type 0} (w : Writer H) (h g : SpacePacketHeader) (x : H) (a : Asks) (s : List ℕ) (k : Hands w x a s) (b : Bool) (n : ℕ) where
-  kind-same : (m : ℕ) → g ≡ asKind w h → reserveBy w g x b n m ≡ reserveBy w h x b n m
+  kind-same : (m : ℕ) → g ≡ as_kind w h → reserve_by w g x b n m ≡ reserve_by w h x b n m
   unfolding header_check
-  kind-same m eg = ap (λ (z : SpacePacketHeader). reserveBy w z x b n m) eg
+  kind-same m eg = ap (λ (z : SpacePacketHeader). reserve_by w z x b n m) eg
 
-  pub reserve-answer : (m : ℕ) → g ≡ asKind w h → reserve_with (asked_by a g) (check_answer a.version) (6 + length s) b n m ≡ reserveBy w h x b n m
+  pub reserve-answer : (m : ℕ) → g ≡ as_kind w h → reserve_with (asked_by a g) (check_answer a.version) (6 + length s) b n m ≡ reserve_by w h x b n m
   reserve-answer m eg = reserve-is w g x a s k b n m ∙ kind-same m eg
 
-  pub reserve-left : (l m : List ℕ) → g ≡ asKind w h
+  pub reserve-left : (l m : List ℕ) → g ≡ as_kind w h
       → m ≡ headed_at (6 + length s) (reserve_with (asked_by a g) (check_answer a.version) (6 + length s) b n (length l)) (header_octets (with_length g (total_for (6 + length s) b n - 7)) ++ s) l
-      → m ≡ headedBy w (reserveBy w h x b n (length l)) (headBy w h x b n) l
+      → m ≡ headed_by w (reserve_by w h x b n (length l)) (head_by w h x b n) l
   reserve-left l m eg u =
       headed w g x a s k b n l m u
-      ∙ ap₂ (λ (z : Answer ℕ) (q : SpacePacketHeader). headed_at (start_by w) z (contentBy w (with_length q (total_for (start_by w) b n - 7)) x []) l) (kind-same (length l) eg) eg
+      ∙ ap₂ (λ (z : Answer ℕ) (q : SpacePacketHeader). headed_at (start_by w) z (content_by w (with_length q (total_for (start_by w) b n - 7)) x []) l) (kind-same (length l) eg) eg
 
 -- the octets are not wanted for the length, only where the data starts
 module _ {H : Type 0} (w : Writer H) (h : SpacePacketHeader) (x : H) (a : Asks) (start : ℕ) (b : Bool) (n : ℕ)
     (p : asks_answer a ≡ asked_of w x) (z : w.first x ≡ gives tt → start ≡ start_by w) where
-  pub new_is : (set : Bool) → made_with (asked_by a (asKind w h)) start b n set (asKind w h) ≡ newBy w h x b set n
+  pub new_is : (set : Bool) → made_with (asked_by a (as_kind w h)) start b n set (as_kind w h) ≡ new_by w h x b set n
   new_is set =
       then-of _ _ _
-      ((λ i. field_with (asked (p i).first (asKind w h) (p i).fields) start b n set h.data_len)
+      ((λ i. field_with (asked (p i).first (as_kind w h) (p i).fields) start b n set h.data_len)
       ∙ field-start (w.first x) _ start (start_by w) b n set h.data_len z)
 
-  pub afresh : afresh_with (asked_by a h) start b n h ≡ afreshBy w h x b n
+  pub afresh : afresh_with (asked_by a h) start b n h ≡ afresh_by w h x b n
   afresh =
       (λ i. afresh_with (asked (p i).first h (p i).fields) start b n h)
       ∙ afresh-start (w.first x) _ start (start_by w) b n h z

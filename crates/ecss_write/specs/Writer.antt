@@ -39,58 +39,58 @@ module _ {H : Type 0} (w : Writer H) where
   asked_of x = record { first = w.first x; fields = w.fields x; version = w.version x }
 
   -- the octets before the checksum, and with it, where there is one
-  abbrev pub contentBy : SpacePacketHeader → H → List ℕ → List ℕ
-  contentBy h x d = content_of w.kind (packet_by h x d)
+  abbrev pub content_by : SpacePacketHeader → H → List ℕ → List ℕ
+  content_by h x d = content_of w.kind (packet_by h x d)
 
   abbrev pub octets_by : SpacePacketHeader → H → Bool → List ℕ → List ℕ
-  octets_by h x b d = closed b (contentBy h x d)
+  octets_by h x b d = closed b (content_by h x d)
 
   -- the kind's type, and a secondary header; the packet version number is kept
-  abbrev pub asKind : SpacePacketHeader → SpacePacketHeader
-  asKind = as_type w.kind.type
+  abbrev pub as_kind : SpacePacketHeader → SpacePacketHeader
+  as_kind = as_type w.kind.type
 
   -- the header that is made for some data, with a checksum: its length is the total minus 7
-  abbrev pub madeBy : SpacePacketHeader → List ℕ → SpacePacketHeader
-  madeBy h d = with_length (asKind h) (start_by + length d + 2 - 7)
+  abbrev pub made_by : SpacePacketHeader → List ℕ → SpacePacketHeader
+  made_by h d = with_length (as_kind h) (start_by + length d + 2 - 7)
 
   -- what comes before all others, then the first field over its width
-  abbrev pub checkBy : SpacePacketHeader → H → Passed
-  checkBy h x = asked (w.first x) h (w.fields x)
+  abbrev pub check_by : SpacePacketHeader → H → Passed
+  check_by h x = asked (w.first x) h (w.fields x)
 
   -- construction, the header that it makes: what comes first, 7, and 6 where it sets the length
-  abbrev pub newBy : SpacePacketHeader → H → Bool → Bool → ℕ → Answer SpacePacketHeader
-  newBy h x b set n = made_with (checkBy (asKind h) x) start_by b n set (asKind h)
+  abbrev pub new_by : SpacePacketHeader → H → Bool → Bool → ℕ → Answer SpacePacketHeader
+  new_by h x b set n = made_with (check_by (as_kind h) x) start_by b n set (as_kind h)
 
   -- the length set afresh: what comes first, 7, 6
-  abbrev pub afreshBy : SpacePacketHeader → H → Bool → ℕ → Kept SpacePacketHeader
-  afreshBy h x b n = afresh_with (checkBy h x) start_by b n h
+  abbrev pub afresh_by : SpacePacketHeader → H → Bool → ℕ → Kept SpacePacketHeader
+  afresh_by h x b n = afresh_with (check_by h x) start_by b n h
 
   -- writing into a buffer of m octets: what comes first, 7, 6 for the machine size, 1, 3; and without the checksum
-  abbrev pub writeBy : SpacePacketHeader → H → Bool → ℕ → ℕ → Answer ℕ
-  writeBy h x b n m = write_with (checkBy h x) (w.version x) start_by b n m
+  abbrev pub write_by : SpacePacketHeader → H → Bool → ℕ → ℕ → Answer ℕ
+  write_by h x b n m = write_with (check_by h x) (w.version x) start_by b n m
 
-  abbrev pub bareBy : SpacePacketHeader → H → Bool → ℕ → ℕ → Answer ℕ
-  bareBy h x b n m = bare_with (checkBy h x) (w.version x) start_by b n m
+  abbrev pub bare_by : SpacePacketHeader → H → Bool → ℕ → ℕ → Answer ℕ
+  bare_by h x b n m = bare_with (check_by h x) (w.version x) start_by b n m
 
   -- what either of them answers, and leaves of the buffer
   abbrev pub PutWrote : Bool → SpacePacketHeader → H → Bool → List ℕ → List ℕ → SizeResult → List ℕ → Type 0
   PutWrote bare h x b d before r after =
-      Wrote (put_with bare (checkBy h x) (w.version x) start_by b (length d) (length before)) (put_octets bare b (contentBy h x d)) before r after
+      Wrote (put_with bare (check_by h x) (w.version x) start_by b (length d) (length before)) (put_octets bare b (content_by h x d)) before r after
 
   -- the checksum over all octets before it: what comes first, 7, 3
-  abbrev pub ownBy : SpacePacketHeader → H → List ℕ → Answer ℕ
-  ownBy h x d = own_with (checkBy h x) (w.version x) (contentBy h x d)
+  abbrev pub own_by : SpacePacketHeader → H → List ℕ → Answer ℕ
+  own_by h x d = own_with (check_by h x) (w.version x) (content_by h x d)
 
   -- reserving: what comes first, 7, 6 for the machine size, 1, 6 for the packet limit, 3; the answer is the total
-  abbrev pub reserveBy : SpacePacketHeader → H → Bool → ℕ → ℕ → Answer ℕ
-  reserveBy h x b n m = reserve_with (checkBy h x) (w.version x) start_by b n m
+  abbrev pub reserve_by : SpacePacketHeader → H → Bool → ℕ → ℕ → Answer ℕ
+  reserve_by h x b n m = reserve_with (check_by h x) (w.version x) start_by b n m
 
   -- the headers that it writes: as construction makes them, with the length
-  abbrev pub headBy : SpacePacketHeader → H → Bool → ℕ → List ℕ
-  headBy h x b n = contentBy (with_length (asKind h) (total_for start_by b n - 7)) x []
+  abbrev pub head_by : SpacePacketHeader → H → Bool → ℕ → List ℕ
+  head_by h x b n = content_by (with_length (as_kind h) (total_for start_by b n - 7)) x []
 
-  abbrev pub headedBy : Answer ℕ → List ℕ → List ℕ → List ℕ
-  headedBy = headed_at start_by
+  abbrev pub headed_by : Answer ℕ → List ℕ → List ℕ → List ℕ
+  headed_by = headed_at start_by
 
 -- headers and data of which construction or a reservation, which set the rest, make a packet under the written rules
 pub record Handed {H : Type 0} (k : Kind H) (p : Packet H) : Type 0 where

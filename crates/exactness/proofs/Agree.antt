@@ -19,20 +19,20 @@ use Rattle.reserve.proofs.Filled.{fill-by}
 use Rattle.reserve.proofs.Reserved.{in-holds}
 use Rattle.ecss_write.proofs.Over.{over-take, over-drop, over-length, over-more}
 use Rattle.ecss_write.proofs.Written.{reserves, write-given}
-use Rattle.ecss_write.specs.Writer.{Writer, WriterLaws, start_by, contentBy, octets_by, asKind, newBy, writeBy, reserveBy, headBy, headedBy}
+use Rattle.ecss_write.specs.Writer.{Writer, WriterLaws, start_by, content_by, octets_by, as_kind, new_by, write_by, reserve_by, head_by, headed_by}
 use Rattle.exactness.specs.Demand3.{held_by}
 use Rattle.exactness.proofs.Given.{checked, check-made, new-given}
 
 module _ {H : Type 0} (w : Writer H) (l : WriterLaws w) where
   -- ---- the octets of a packet
 
-  pub content-length : (h : SpacePacketHeader) (x : H) (d : List ℕ) → w.kind.Fits x → length (contentBy w h x d) ≡ start_by w + length d
+  pub content-length : (h : SpacePacketHeader) (x : H) (d : List ℕ) → w.kind.Fits x → length (content_by w h x d) ≡ start_by w + length d
   unfolding content_of
   content-length h x d f =
       let e = w.kind.enc x in
       omega (arith, length-append (header_octets h) (e ++ d), length-append e d, length-header_octets h, l.kind-laws.enc-size x f)
 
-  pub content-parts : (h : SpacePacketHeader) (x : H) (d : List ℕ) → contentBy w h x [] ++ d ≡ contentBy w h x d
+  pub content-parts : (h : SpacePacketHeader) (x : H) (d : List ℕ) → content_by w h x [] ++ d ≡ content_by w h x d
   unfolding content_of
   content-parts h x d =
       let e = w.kind.enc x in append_assoc (header_octets h) (e ++ []) d ∙ ap (λ (z : List ℕ). header_octets h ++ (z ++ d)) (append-nil e)
@@ -41,7 +41,7 @@ module _ {H : Type 0} (w : Writer H) (l : WriterLaws w) where
 
   module _ (h : SpacePacketHeader) (x : H) (b : Bool) (d before : List ℕ) (total : ℕ) where
     abbrev pub headed : List ℕ
-    headed = headedBy w (reserveBy w h x b (length d) (length before)) (headBy w h x b (length d)) before
+    headed = headed_by w (reserve_by w h x b (length d) (length before)) (head_by w h x b (length d)) before
 
     abbrev pub filled : List ℕ
     filled = filled_by (fill_in (start_by w) (held_by w b total) (length headed) (length d)) (start_by w) d headed
@@ -49,16 +49,16 @@ module _ {H : Type 0} (w : Writer H) (l : WriterLaws w) where
     -- it was filled in whole, and finishing answers and leaves what the write of these headers does
     pub record AsWritten : Type 0 where
       pub header : SpacePacketHeader
-      pub made : newBy w h x b true (length d) ≡ gives header
-      pub writes : writeBy w header x b (length d) (length before) ≡ gives total
+      pub made : new_by w h x b true (length d) ≡ gives header
+      pub writes : write_by w header x b (length d) (length before) ≡ gives total
       pub is : total ≡ total_for (start_by w) b (length d)
       pub fills : fill_in (start_by w) (held_by w b total) (length headed) (length d) ≡ gives (length d)
       pub answers : finish_in (start_by w) (held_by w b total) (length filled) ≡ gives total
       pub leaves :
           left_by (finish_in (start_by w) (held_by w b total) (length filled)) (finished (held_by w b total) filled) filled
-          ≡ left_by (writeBy w header x b (length d) (length before)) (octets_by w header x b d) before
+          ≡ left_by (write_by w header x b (length d) (length before)) (octets_by w header x b d) before
 
-    pub reserved-agrees : length before ≤ 18446744073709551615 → reserveBy w h x b (length d) (length before) ≡ gives total → AsWritten
+    pub reserved-agrees : length before ≤ 18446744073709551615 → reserve_by w h x b (length d) (length before) ≡ gives total → AsWritten
     unfolding fill_in finish_in
     reserved-agrees k g =
         let p = reserves _ _ (start_by w) b (length d) (length before) total g in
@@ -67,22 +67,22 @@ module _ {H : Type 0} (w : Writer H) (l : WriterLaws w) where
         let s : total ≤ 65542 = p.1 in
         let c = checked w l h x p.0.before-passed in
         let fit = l.passed-fits x c.0 c.2 p.0.after-passed in
-        let t = with_length (asKind w h) (total_for (start_by w) b (length d) - 7) in
+        let t = with_length (as_kind w h) (total_for (start_by w) b (length d) - 7) in
         let q = held_by w b total in
         let m = headed in
         let y = filled in
-        let o = contentBy w t x [] in
+        let o = content_by w t x [] in
         let zo : length o ≡ start_by w = content-length t x [] fit ∙ omega arith in
         let zc = content-length t x d fit in
-        let em : m ≡ o ++ drop (start_by w) before = ap (λ (a : Answer ℕ). headedBy w a o before) g in
+        let em : m ≡ o ++ drop (start_by w) before = ap (λ (a : Answer ℕ). headed_by w a o before) g in
         let sm : length m ≡ length before = ap length em ∙ over-length o before (start_by w) zo (omega arith) in
         let holds : (z : List ℕ) → length z ≡ length before → holds_in (start_by w) q (length z) ≡ gives tt =
         λ z i. in-holds (start_by w) q (length z) (record { starts = refl; room = omega arith; states = s }) (omega arith) in
         let fills = gives_then _ _ tt (holds m sm) ∙ refuse-no _ _ _ (le-ltb (end_of q - start_by w) (length d) (omega arith)) in
-        let ey : y ≡ contentBy w t x d ++ drop (start_by w + length d) before =
+        let ey : y ≡ content_by w t x d ++ drop (start_by w + length d) before =
         fill-by _ (start_by w) d m _ fills ∙ over-more o d before m (start_by w) zo em
         ∙ ap (λ (z : List ℕ). z ++ drop (start_by w + length d) before) (content-parts t x d) in
-        let sy : length y ≡ length before = ap length ey ∙ over-length (contentBy w t x d) before _ zc (omega arith) in
+        let sy : length y ≡ length before = ap length ey ∙ over-length (content_by w t x d) before _ zc (omega arith) in
         let fin = gives_then _ _ tt (holds y sy) in
         let wr = write-given _ _ (start_by w) b (length d) (length before) total (record { before-passed = check-made w l h x _ ∙ p.0.before-passed; after-passed = p.0.after-passed; is = p.0.is; fits = f }) k in
         let i : total - trailer b ≡ start_by w + length d = omega arith in
@@ -97,7 +97,7 @@ module _ {H : Type 0} (w : Writer H) (l : WriterLaws w) where
           leaves =
               left-written _ _ _ _ fin
               ∙ ap₂ (λ (u v : List ℕ). closed b u ++ v)
-              (ap (λ (n : ℕ). take n y) i ∙ over-take (contentBy w t x d) before y _ zc ey)
-              (ap (λ (n : ℕ). drop n y) j ∙ over-drop (contentBy w t x d) before y _ (trailer b) zc ey ∙ ap (λ (n : ℕ). drop n before) (sym j))
+              (ap (λ (n : ℕ). take n y) i ∙ over-take (content_by w t x d) before y _ zc ey)
+              (ap (λ (n : ℕ). drop n y) j ∙ over-drop (content_by w t x d) before y _ (trailer b) zc ey ∙ ap (λ (n : ℕ). drop n before) (sym j))
               ∙ sym (left-written _ _ _ _ wr);
         }

@@ -1,5 +1,5 @@
 -- A packet that was accepted is refused once bits of it are changed in a way that the checksum detects: for every kind.
-use Prim.Native.Nat.{ℕ, suc}
+use Prim.Native.Nat.{ℕ, suc, ◌*◌, ◌≤◌, zero-le, suc-le-suc}
 use mathlib.Core.Path.{◌≡◌, refl, sym, ap, ap₂, ◌∙◌, subst}
 use mathlib.Core.Bool.{Bool}
 use mathlib.Core.List.{List, [], ◌∷◌}
@@ -8,13 +8,13 @@ use native.Mathlib.Nat.{suc_inj}
 use lib.ListN.{length, take, length-take}
 use lib.Seq.{length-take-le}
 use Rattle.space_packet.specs.Answer.{Answer, Numbers, gives, refuses}
-use Rattle.crc_register.specs.Crc.{◌⊕◌, bits_of, crc_of}
-use Rattle.crc_register.specs.Added.{add_octets}
+use Rattle.crc_register.specs.Crc.{◌⊕◌, octet_bits, bits_of, crc_of}
+use Rattle.crc_register.specs.Added.{add_bits, add_octets}
 use Rattle.crc_register.proofs.Xor.{⊕-assoc, ⊕-self, zero-⊕}
 use Rattle.crc_register.proofs.Linear.{bits_of-⊕}
 use Rattle.detect.specs.Errors.{Detected, UpToThree}
 use Rattle.detect.proofs.Detect.{detects}
-use Rattle.detect.proofs.UpToThree.{three-bits}
+use Rattle.detect.proofs.UpToThree.{three-bits, up-to-three-detected}
 use Rattle.ecss.specs.Frame.{stated_of}
 use Rattle.ecss.specs.Kind.{Kind, Packet, judge}
 use Rattle.exactness.specs.Changed.{ChangedIn, Changed, UpToThreeChanged, differences}
@@ -38,9 +38,41 @@ add_back (x ∷ s) (y ∷ t) h =
     ap₂ ◌∷◌ (sym (⊕-assoc x x y) ∙ ap (λ (z : ℕ). z ⊕ y) (⊕-self x) ∙ zero-⊕ y) (add_back s t (suc_inj h))
 
 -- where no such error of octets that verify goes undetected, these and octets that differ from them so do not both verify
-not-both : (D : List Bool → Type 0) (s t : List ℕ) → ((e : List ℕ) → length s ≡ length e → D (bits_of e) → crc_of (add_octets s e) ≡ 0 → ⊥)
+not-both-by : (D : List Bool → Type 0) (s t : List ℕ) → ((e : List ℕ) → length s ≡ length e → D (bits_of e) → crc_of (add_octets s e) ≡ 0 → ⊥)
     → length s ≡ length t → D (differences s t) → crc_of t ≡ 0 → ⊥
-not-both D s t tells h d z = tells (add_octets s t) (add-length s t h) (subst D (sym (bits_of-⊕ s t h)) d) (ap crc_of (add_back s t h) ∙ z)
+not-both-by D s t tells h d z = tells (add_octets s t) (add-length s t h) (subst D (sym (bits_of-⊕ s t h)) d) (ap crc_of (add_back s t h) ∙ z)
+
+-- octets that differ so do not both verify
+pub not-both : (s t : List ℕ) → length s ≡ length t → Detected (differences s t) → crc_of s ≡ 0 → crc_of t ≡ 0 → ⊥
+not-both s t h d z z' =
+    detects s (add_octets s t) (add-length s t h) z (subst Detected (sym (bits_of-⊕ s t h)) d)
+    (ap crc_of (add_back s t h) ∙ z')
+
+-- ---- one, two or three bits of a packet that is short enough
+
+bits-length : (s : List ℕ) → length (bits_of s) ≡ 8 * length s
+unfolding bits_of octet_bits
+bits-length [] = refl
+bits-length (o ∷ s) = let e = bits-length s in omega arith
+
+added-length : (xs ys : List Bool) → length (add_bits xs ys) ≤ length xs
+unfolding add_bits
+added-length [] ys = zero-le
+added-length (x ∷ xs) [] = zero-le
+added-length (x ∷ xs) (y ∷ ys) = suc-le-suc (added-length xs ys)
+
+differences-length : (s s' : List ℕ) (t : ℕ) → length (differences (take t s) (take t s')) ≤ 8 * t
+differences-length s s' t =
+    let a = added-length (bits_of (take t s)) (bits_of (take t s')) in
+    let b = bits-length (take t s) in
+    let c = length-take t s in
+    omega arith
+
+pub up-to-three-changed : (s s' : List ℕ) (t : ℕ) → UpToThreeChanged s s' t → Changed s s' t
+up-to-three-changed s s' t d =
+    let c = d.changed in
+    let n = differences-length s s' t in
+    record { four = c.four; five = c.five; bits = up-to-three-detected (differences (take t s) (take t s')) (omega (arith, n, d.at_most)) c.bits }
 
 -- ---- the verdict
 
@@ -64,7 +96,7 @@ module _ {H : Type 0} (k : Kind H) (s s' : List ℕ) (p : Packet H) (h : judge k
         let e : stated_of s ≡ stated_of s' = omega arith in
         let l = length-take-le (stated_of s) s (omega arith) in
         let l' = length-take-le (stated_of s) s' (omega arith) in
-        not-both D own (take (stated_of s) s') (tells a.verifies) (l ∙ sym l') d.bits (ap (λ (n : ℕ). crc_of (take n s')) e ∙ a'.verifies)
+        not-both-by D own (take (stated_of s) s') (tells a.verifies) (l ∙ sym l') d.bits (ap (λ (n : ℕ). crc_of (take n s')) e ∙ a'.verifies)
 
     refused-in : (n : Numbers) × (judge k s' ≡ refuses n)
     refused-in = or-refused (judge k s') not-accepted

@@ -20,16 +20,16 @@ use Rattle.space_packet.proofs.Answers.{gives-inj, refuse-no, refuse-yes, then-g
 use Rattle.space_packet.proofs.Determined.{writes}
 use Rattle.ecss.specs.Frame.{Octets, stated_of, Told}
 use Rattle.ecss.specs.Kind.{Kind, KindLaws, Packet, Primary, Rules, BeginsWith, as_idle, start_of, packet_of, secondary_of, pus_rule, strict_rule, ruled, judge}
-use Rattle.ecss.proofs.After.{verdictAfter}
+use Rattle.ecss.proofs.After.{verdict_after}
 use Rattle.ecss.proofs.Frames.{FrameIs, total-checked}
 use Rattle.ecss.proofs.Pieces.{data_is}
 use Rattle.ecss.proofs.Rules.{strict-says}
-use Rattle.ecss_write.specs.Writer.{Writer, WriterLaws, packet_by, start_by, madeBy, octets_by, newBy, writeBy, Handed}
+use Rattle.ecss_write.specs.Writer.{Writer, WriterLaws, packet_by, start_by, made_by, octets_by, new_by, write_by, Handed}
 use Rattle.reserve.specs.Reserve.{fill_in, filled_by, finish_in, finished}
 use Rattle.exactness.specs.Changed.{Changed, UpToThreeChanged}
 use Rattle.exactness.specs.Demand3.{RefusesIf, RefusesChanged, RefusesUpToThree, total_for, Room, Accepted, made_of, held_by, FinishedBy}
 use Rattle.exactness.proofs.Exact.{accepted, total-is, complete, idle-judged, rewritten, sound}
-use Rattle.exactness.proofs.Changed.{refused, refused-three}
+use Rattle.exactness.proofs.Changed.{up-to-three-changed, refused, refused-three}
 use Rattle.exactness.proofs.Given.{checked, handed-rules, handed-new, new-handed, handed-reserve, rules-write}
 use Rattle.exactness.proofs.Agree.{reserved-agrees}
 use Rattle.exactness.proofs.Told.{told}
@@ -50,18 +50,25 @@ module _ {H : Type 0} (k : Kind H) where
       let n : start_of k + length p.user - start_of k ≡ length p.user = omega arith in
       ap₂ (λ (m : ℕ) (z : List ℕ). take m (drop (start_of k) z)) n b.octets ∙ data_is k l true p b.rest b.rules.stated
 
+-- what refuses changes that the checksum detects refuses one, two or three bits of a packet that is short enough
+so-up-to-three : {R : Type 0} {a b : Answer R} (s s' : List ℕ) → RefusesChanged a s b s' → RefusesUpToThree a s b s'
+so-up-to-three s s' f r p c = f r p (up-to-three-changed s s' (stated_of s) c)
+
 -- calls that answer what a and b do refuse what these refuse
 pub answered : {R : Type 0} {a b x y : Answer R} (C : List ℕ → List ℕ → ℕ → Type 0) (s s' : List ℕ) → x ≡ a → y ≡ b → RefusesIf C a s b s' → RefusesIf C x s y s'
 answered C s s' e g f r p c = let n = f r (sym e ∙ p) c in (n.0, g ∙ n.1)
 
-pub both-answered : {R : Type 0} {a b x y : Answer R} (s s' : List ℕ) → x ≡ a → y ≡ b → RefusesChanged a s b s' → RefusesUpToThree a s b s'
+pub both-answered-each : {R : Type 0} {a b x y : Answer R} (s s' : List ℕ) → x ≡ a → y ≡ b → RefusesChanged a s b s' → RefusesUpToThree a s b s'
     → RefusesChanged x s y s' × RefusesUpToThree x s y s'
-both-answered s s' e g f h = (answered Changed s s' e g f, answered UpToThreeChanged s s' e g h)
+both-answered-each s s' e g f h = (answered Changed s s' e g f, answered UpToThreeChanged s s' e g h)
+
+pub both-answered : {R : Type 0} {a b x y : Answer R} (s s' : List ℕ) → x ≡ a → y ≡ b → RefusesChanged a s b s' → RefusesChanged x s y s' × RefusesUpToThree x s y s'
+both-answered s s' e g f = let h = answered Changed s s' e g f in (h, so-up-to-three s s' h)
 
 module _ {H R : Type 0} (first : Passed) (good : first ≡ gives tt) (k : Kind H) (l : KindLaws k) (g : List ℕ → ℕ → R) where
   -- the verdict on s
   abbrev pub verdict : List ℕ → Answer R
-  verdict s = verdictAfter first k s (g s)
+  verdict s = verdict_after first k s (g s)
 
   -- octets that begin with a packet under the rules are accepted
   pub accepts : (s : List ℕ) (p : Packet H) → BeginsWith k s p → verdict s ≡ gives (g s (total_for k p.user))
@@ -93,21 +100,21 @@ module _ {H R : Type 0} (first : Passed) (good : first ≡ gives tt) (k : Kind H
   up-to-three-refused s s' = refuses-if UpToThreeChanged s s' (refused-three k s s')
 
   -- what is reported of a packet
-  module _ (reportFor : Packet H → R) (reports : (s : List ℕ) (p : Packet H) → BeginsWith k s p → verdict s ≡ gives (reportFor p)) where
+  module _ (report_for : Packet H → R) (reports : (s : List ℕ) (p : Packet H) → BeginsWith k s p → verdict s ≡ gives (report_for p)) where
     pub exactly : (s : List ℕ) → Octets s → ((r : R) × (verdict s ≡ gives r)) ↔ ((p : Packet H) × BeginsWith k s p)
     exactly s o = (
       λ a. let p = judged s a.0 a.1 in (p.0, sound k l s p.0 o p.1),
-      λ b. (reportFor b.0, reports s b.0 b.1),
+      λ b. (report_for b.0, reports s b.0 b.1),
     )
 
     -- a packet that is found again in what is reported of it, of which the total is, is the same octets written again
-    module _ (total : R → ℕ) (total_of : (p : Packet H) → total (reportFor p) ≡ total_for k p.user)
-        (back : List ℕ → R → Packet H) (back-of : (s : List ℕ) (p : Packet H) → BeginsWith k s p → back s (reportFor p) ≡ p) where
+    module _ (total : R → ℕ) (total_of : (p : Packet H) → total (report_for p) ≡ total_for k p.user)
+        (back : List ℕ → R → Packet H) (back-of : (s : List ℕ) (p : Packet H) → BeginsWith k s p → back s (report_for p) ≡ p) where
       pub written-again : (s : List ℕ) (r : R) → Octets s → verdict s ≡ gives r → take (total r) s ≡ packet_of k (back s r)
       written-again s r o a =
           let b = (exactly s o).0 (r, a) in
           let p = b.0 in
-          let e : reportFor p ≡ r = gives-inj _ r (sym (reports s p b.1) ∙ a) in
+          let e : report_for p ≡ r = gives-inj _ r (sym (reports s p b.1) ∙ a) in
           ap (λ (n : ℕ). take n s) (ap total (sym e) ∙ total_of p ∙ sym (total-is k l s p b.1))
           ∙ rewritten k l s p o (complete k l s p b.1)
           ∙ ap (packet_of k) (sym (back-of s p b.1) ∙ ap (back s) e)
@@ -143,7 +150,7 @@ module _ {H G : Type 0} (k : Kind H) (j : Kind G) (s : List ℕ) where
 module _ {H : Type 0} (w : Writer H) (l : WriterLaws w) where
   -- what construction makes, with the length set and a checksum, is under the rules
   pub made-under-rules : (h : SpacePacketHeader) (x : H) (d : List ℕ) (g : SpacePacketHeader) → h.version ≡ 0 → is_idle h.packet_id.apid ≡ false
-      → w.version x ≡ gives tt → newBy w h x true true (length d) ≡ gives g → Rules w.kind (packet_by g x d)
+      → w.version x ≡ gives tt → new_by w h x true true (length d) ≡ gives g → Rules w.kind (packet_by g x d)
   made-under-rules h x d g v i c p =
       let m = new-handed w l h x d g p in
       let k = checked w l h x m.0 in
@@ -151,13 +158,13 @@ module _ {H : Type 0} (w : Writer H) (l : WriterLaws w) where
       subst (λ (z : SpacePacketHeader). Rules w.kind (packet_by z x d)) (sym m.2) (handed-rules w l h x d e)
 
   -- a verdict that reports what begins with a packet under the rules
-  module _ {R : Type 0} (reportFor : Packet H → R) (verdict : List ℕ → Answer R)
-      (reports : (s : List ℕ) (p : Packet H) → BeginsWith w.kind s p → verdict s ≡ gives (reportFor p)) where
+  module _ {R : Type 0} (report_for : Packet H → R) (verdict : List ℕ → Answer R)
+      (reports : (s : List ℕ) (p : Packet H) → BeginsWith w.kind s p → verdict s ≡ gives (report_for p)) where
     -- in a buffer that has room, with anything after it
     pub written-accepted : (h : SpacePacketHeader) (x : H) (d before after : List ℕ) (r : SizeResult)
         → Rules w.kind (packet_by h x d) → Room w.kind d before
-        → Wrote (writeBy w h x true (length d) (length before)) (octets_by w h x true d) before r after
-        → Accepted w.kind reportFor verdict (packet_by h x d) before r after
+        → Wrote (write_by w h x true (length d) (length before)) (octets_by w h x true d) before r after
+        → Accepted w.kind report_for verdict (packet_by h x d) before r after
     written-accepted h x d before after r u m v =
         let n = total_for w.kind d in
         let g = rules-write w l h x d (length before) u m.fits m.is_slice in
@@ -170,12 +177,12 @@ module _ {H : Type 0} (w : Writer H) (l : WriterLaws w) where
 
     module _ (p : Packet H) (before : List ℕ) (g : Handed w.kind p) (k : Room w.kind p.user before) where
       -- what a buffer m holds once the data was filled in where it is reserved
-      abbrev filledFrom : List ℕ → List ℕ
-      filledFrom m = filled_by (fill_in (start_by w) (held_by w true (total_for w.kind p.user)) (length m) (length p.user)) (start_by w) p.user m
+      abbrev filled_from : List ℕ → List ℕ
+      filled_from m = filled_by (fill_in (start_by w) (held_by w true (total_for w.kind p.user)) (length m) (length p.user)) (start_by w) p.user m
 
       -- what was reserved, filled in and finished is accepted
       pub reserved-accepted : (r : SizeResult) (after : List ℕ) → FinishedBy w (start_by w) (held_by w true (total_for w.kind p.user)) p before r after
-          → Accepted w.kind reportFor verdict (made_of w p) before r after
+          → Accepted w.kind report_for verdict (made_of w p) before r after
       reserved-accepted r after v =
           let h = p.primary in
           let x = p.secondary in
@@ -183,9 +190,9 @@ module _ {H : Type 0} (w : Writer H) (l : WriterLaws w) where
           let q = held_by w true (total_for w.kind d) in
           let e = handed-reserve w l h x d (length before) g k.fits k.is_slice in
           let a = reserved-agrees w l h x true d before (total_for w.kind d) k.is_slice e in
-          let i : a.header ≡ madeBy w h d = gives-inj _ _ (sym a.made ∙ handed-new w l h x d g) in
-          let m = v.fills ∙ ap filledFrom v.reserves in
+          let i : a.header ≡ made_by w h d = gives-inj _ _ (sym a.made ∙ handed-new w l h x d g) in
+          let m = v.fills ∙ ap filled_from v.reserves in
           let y = subst (λ (s : List ℕ). Wrote (finish_in (start_by w) q (length s)) (finished q s) s r after) m v.finishes in
-          let z : Wrote (writeBy w a.header x true (length d) (length before)) (octets_by w a.header x true d) before r after = record { answered = y.answered ∙ a.answers ∙ sym a.writes; left = y.left ∙ a.leaves } in
-          written-accepted (madeBy w h d) x d before after r (handed-rules w l h x d g) k
-          (subst (λ (c : SpacePacketHeader). Wrote (writeBy w c x true (length d) (length before)) (octets_by w c x true d) before r after) i z)
+          let z : Wrote (write_by w a.header x true (length d) (length before)) (octets_by w a.header x true d) before r after = record { answered = y.answered ∙ a.answers ∙ sym a.writes; left = y.left ∙ a.leaves } in
+          written-accepted (made_by w h d) x d before after r (handed-rules w l h x d g) k
+          (subst (λ (c : SpacePacketHeader). Wrote (write_by w c x true (length d) (length before)) (octets_by w c x true d) before r after) i z)

@@ -12,42 +12,42 @@ use Rattle.space_packet.proofs.Answers.{gives-inj, then-gives, gives_then}
 use Rattle.space_packet.proofs.RoundTrip.{in-range-check, check-in-range}
 use Rattle.ecss.specs.Kind.{Rules, judge}
 use Rattle.ecss_write.specs.Write.{total_for, with_length, field_with}
-use Rattle.ecss_write.specs.Writer.{Writer, WriterLaws, packet_by, start_by, octets_by, asKind, madeBy, checkBy, newBy, writeBy, reserveBy, Handed}
+use Rattle.ecss_write.specs.Writer.{Writer, WriterLaws, packet_by, start_by, octets_by, as_kind, made_by, check_by, new_by, write_by, reserve_by, Handed}
 use Rattle.ecss_write.proofs.Written.{field-total, field-stated, write-given, reserve-given}
 use Rattle.exactness.proofs.Exact.{complete}
 
 module _ {H : Type 0} (w : Writer H) (l : WriterLaws w) where
   -- ---- the checks
 
-  pub checked : (h : SpacePacketHeader) (x : H) → checkBy w h x ≡ gives tt → (w.first x ≡ gives tt) × InRange h × (w.fields x ≡ gives tt)
+  pub checked : (h : SpacePacketHeader) (x : H) → check_by w h x ≡ gives tt → (w.first x ≡ gives tt) × InRange h × (w.fields x ≡ gives tt)
   checked h x p =
       let a = then-gives (w.first x) _ tt p in
       let b = then-gives (header_check h) _ tt a.2 in
       (a.1, check-in-range h b.1, b.2)
 
-  check-given : (h : SpacePacketHeader) (x : H) → InRange h → w.kind.Fits x → checkBy w h x ≡ gives tt
+  check-given : (h : SpacePacketHeader) (x : H) → InRange h → w.kind.Fits x → check_by w h x ≡ gives tt
   check-given h x i f =
       let p = l.fits-passes x f in
       gives_then _ _ tt p.0 ∙ gives_then _ _ tt (in-range-check h i) ∙ p.1
 
   -- the header's type, flag and length are not among them
-  pub check-made : (h : SpacePacketHeader) (x : H) (n : ℕ) → checkBy w (with_length (asKind w h) n) x ≡ checkBy w h x
+  pub check-made : (h : SpacePacketHeader) (x : H) (n : ℕ) → check_by w (with_length (as_kind w h) n) x ≡ check_by w h x
   unfolding header_check
   check-made h x n = refl
 
-  check-kind : (h : SpacePacketHeader) (x : H) → checkBy w (asKind w h) x ≡ checkBy w h x
+  check-kind : (h : SpacePacketHeader) (x : H) → check_by w (as_kind w h) x ≡ check_by w h x
   unfolding header_check
   check-kind h x = refl
 
   -- ---- nothing is refused
 
-  pub new-given : (h : SpacePacketHeader) (x : H) (b : Bool) (n : ℕ) → checkBy w h x ≡ gives tt → total_for (start_by w) b n ≤ 65542
-      → newBy w h x b true n ≡ gives (with_length (asKind w h) (total_for (start_by w) b n - 7))
+  pub new-given : (h : SpacePacketHeader) (x : H) (b : Bool) (n : ℕ) → check_by w h x ≡ gives tt → total_for (start_by w) b n ≤ 65542
+      → new_by w h x b true n ≡ gives (with_length (as_kind w h) (total_for (start_by w) b n - 7))
   unfolding field_with
   new-given h x b n p m = gives_then _ _ _ (gives_then _ _ tt (check-kind h x ∙ p) ∙ field-stated (start_by w) b n m)
 
   module _ (h : SpacePacketHeader) (x : H) (d : List ℕ) where
-    pub handed-rules : Handed w.kind (packet_by h x d) → Rules w.kind (packet_by (madeBy w h d) x d)
+    pub handed-rules : Handed w.kind (packet_by h x d) → Rules w.kind (packet_by (made_by w h d) x d)
     handed-rules g =
         record {
           stated =
@@ -60,26 +60,26 @@ module _ {H : Type 0} (w : Writer H) (l : WriterLaws w) where
           primary = record { version-zero = g.version-zero; type-is = refl; has-secondary = refl; not-idle = g.not-idle };
         }
 
-    pub handed-new : Handed w.kind (packet_by h x d) → newBy w h x true true (length d) ≡ gives (madeBy w h d)
+    pub handed-new : Handed w.kind (packet_by h x d) → new_by w h x true true (length d) ≡ gives (made_by w h d)
     handed-new g = new-given h x true (length d) (check-given h x g.in-range g.fits) g.at_most
 
     -- what was made of them was handed over so, but for the version of the secondary header, which is asked at the write
-    pub new-handed : (g : SpacePacketHeader) → newBy w h x true true (length d) ≡ gives g → (checkBy w h x ≡ gives tt) × (start_by w + length d + 2 ≤ 65542) × (g ≡ madeBy w h d)
+    pub new-handed : (g : SpacePacketHeader) → new_by w h x true true (length d) ≡ gives g → (check_by w h x ≡ gives tt) × (start_by w + length d + 2 ≤ 65542) × (g ≡ made_by w h d)
     unfolding field_with
     new-handed g p =
-        let f = then-gives (field_with (checkBy w (asKind w h) x) (start_by w) true (length d) true h.data_len) _ g p in
-        let c = then-gives (checkBy w (asKind w h) x) _ f.0 f.1 in
+        let f = then-gives (field_with (check_by w (as_kind w h) x) (start_by w) true (length d) true h.data_len) _ g p in
+        let c = then-gives (check_by w (as_kind w h) x) _ f.0 f.1 in
         let t = field-total (start_by w) true (length d) f.0 c.2 in
-        (sym (check-kind h x) ∙ c.1, t.1, sym (gives-inj _ g f.2) ∙ ap (with_length (asKind w h)) t.0)
+        (sym (check-kind h x) ∙ c.1, t.1, sym (gives-inj _ g f.2) ∙ ap (with_length (as_kind w h)) t.0)
 
     pub handed-reserve : (m : ℕ) → Handed w.kind (packet_by h x d) → start_by w + length d + 2 ≤ m → m ≤ 18446744073709551615
-        → reserveBy w h x true (length d) m ≡ gives (start_by w + length d + 2)
+        → reserve_by w h x true (length d) m ≡ gives (start_by w + length d + 2)
     handed-reserve m g f k =
         reserve-given _ _ (start_by w) true (length d) m _
         (record { before-passed = check-given h x g.in-range g.fits; after-passed = (l.fits-passes x g.fits).2; is = refl; fits = f }) k g.at_most
 
     pub rules-write : (m : ℕ) → Rules w.kind (packet_by h x d) → start_by w + length d + 2 ≤ m → m ≤ 18446744073709551615
-        → writeBy w h x true (length d) m ≡ gives (start_by w + length d + 2)
+        → write_by w h x true (length d) m ≡ gives (start_by w + length d + 2)
     rules-write m u f k =
         let p = l.fits-passes x u.stated.fits in
         write-given _ _ (start_by w) true (length d) m _

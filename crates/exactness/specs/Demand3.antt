@@ -7,7 +7,7 @@ use Rattle.space_packet.specs.declared.SizeResult.{SizeResult}
 use Rattle.space_packet.specs.declared.SizeResult.TheVariants.{Ok}
 use Rattle.ecss.specs.Frame.{stated_of, Told}
 use Rattle.ecss.specs.Kind.{Kind, Packet, Rules, BeginsWith, as_idle, start_of, packet_of}
-use Rattle.ecss_write.specs.Writer.{Writer, packet_by, start_by, madeBy, reserveBy, headBy, headedBy}
+use Rattle.ecss_write.specs.Writer.{Writer, packet_by, start_by, made_by, reserve_by, head_by, headed_by}
 use Rattle.reserve.specs.Reserve.{fill_in, filled_by, finish_in, finished}
 use Rattle.reserve.specs.declared.Reservation.{Reservation}
 use Rattle.exactness.specs.Changed.{Changed, UpToThreeChanged}
@@ -29,9 +29,9 @@ module _ {R : Type 0} where
 
 -- a accepts if and only if s begins with such a packet, and reports that packet; where only its APID, that of idle packets, sets it
 -- apart from one, a refuses it with 12; and where a refuses with 4, it tells both checksums of the packet, and they differ
-pub record Exact {H R : Type 0} (k : Kind H) (reportFor : Packet H → R) (a : Answer R) (s : List ℕ) : Type 0 where
+pub record Exact {H R : Type 0} (k : Kind H) (report_for : Packet H → R) (a : Answer R) (s : List ℕ) : Type 0 where
   pub exactly : ((r : R) × (a ≡ gives r)) ↔ ((p : Packet H) × BeginsWith k s p)
-  pub reports : (p : Packet H) → BeginsWith k s p → a ≡ gives (reportFor p)
+  pub reports : (p : Packet H) → BeginsWith k s p → a ≡ gives (report_for p)
   pub idle : (p : Packet H) → Rules k p → (rest : List ℕ) → s ≡ packet_of k (as_idle p) ++ rest → a ≡ refuses (refusal 12 [])
   pub tells : (e : Numbers) → a ≡ refuses e → Told s e
 
@@ -51,16 +51,16 @@ module _ {H : Type 0} (k : Kind H) where
     pub is_slice : length before ≤ 18446744073709551615
 
 -- the answer r is the total; `after` is the packet, and behind it what was there before; and the verdict accepts it
-pub record Accepted {H R : Type 0} (k : Kind H) (reportFor : Packet H → R) (verdict : List ℕ → Answer R)
+pub record Accepted {H R : Type 0} (k : Kind H) (report_for : Packet H → R) (verdict : List ℕ → Answer R)
     (p : Packet H) (before : List ℕ) (r : SizeResult) (after : List ℕ) : Type 0 where
   pub answers : r ≡ Ok (total_for k p.user)
   pub leaves : after ≡ packet_of k p ++ drop (total_for k p.user) before
-  pub accepted : verdict after ≡ gives (reportFor p)
+  pub accepted : verdict after ≡ gives (report_for p)
 
 module _ {H : Type 0} (w : Writer H) where
   -- the packet that construction and the reserved writer make of what they are handed
   abbrev pub made_of : Packet H → Packet H
-  made_of p = packet_by (madeBy w p.primary p.user) p.secondary p.user
+  made_of p = packet_by (made_by w p.primary p.user) p.secondary p.user
 
   -- the reservation that is held
   abbrev pub held_by : Bool → ℕ → Reservation
@@ -72,7 +72,7 @@ module _ {H : Type 0} (w : Writer H) where
     pub headed : List ℕ
     pub filled : List ℕ
     pub reserves :
-        headed ≡ headedBy w (reserveBy w p.primary p.secondary true (length p.user) (length before))
-        (headBy w p.primary p.secondary true (length p.user)) before
+        headed ≡ headed_by w (reserve_by w p.primary p.secondary true (length p.user) (length before))
+        (head_by w p.primary p.secondary true (length p.user)) before
     pub fills : filled ≡ filled_by (fill_in start q (length headed) (length p.user)) start p.user headed
     pub finishes : Wrote (finish_in start q (length filled)) (finished q filled) filled r after

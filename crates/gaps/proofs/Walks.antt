@@ -7,7 +7,7 @@ use native.Mathlib.Numerals.{add-one}
 use lib.ListN.{length, take, drop, set, length-set, take-append-drop}
 use lib.Seq.{append_snoc, take-suc-set, drop-set-lt, drop-drop, length-take-le}
 use Rattle.space_packet.specs.Answer.{Numbers, gives, refuses}
-use Rattle.tc_strict.specs.Split.{Piece, Next, piece, length_of, step_of, continue, walkBy, walk_from}
+use Rattle.tc_strict.specs.Split.{Piece, Next, piece, length_of, step_of, continue, walk_by, walk_from}
 use Rattle.tc_strict.specs.Verdict.{strict_of}
 use Rattle.tc_strict.proofs.Pieces.{step_end, step_is}
 use Rattle.gaps.specs.Gaps.{Rows, State, Move, on, lists, stop, move_of, sum_of, Outcome, followed, scan, begin, gaps_of}
@@ -45,7 +45,7 @@ record On (s : List ℕ) (turns at : ℕ) (p : Piece) (next : ℕ) : Type 0 wher
   pub is : walk_from turns s at ≡ p ∷ walk_from left s next
 
 walk-on : (turns : ℕ) (s : List ℕ) (at : ℕ) (p : Piece) (next : ℕ) → at < length s → length s - at ≤ turns → step_of s at ≡ piece p next → On s turns at p next
-unfolding walkBy
+unfolding walk_by
 walk-on zero s at p next h k e = absurd (omega arith)
 walk-on (suc t) s at p next h k e =
     let q = step_is strict_of s at p next e in
@@ -132,7 +132,7 @@ module _ (s : List ℕ) (before now : Rows) (t : State) (at : ℕ) (h : Here s b
 -- ---- the end
 
 walk-done : (turns : ℕ) (s : List ℕ) (at : ℕ) → length s ≤ at → walk_from turns s at ≡ []
-unfolding walkBy
+unfolding walk_by
 walk-done zero s at h = refl
 walk-done (suc t) s at h = ap (λ (x : Next). continue x (walk_from t s)) (step_end strict_of s at h)
 

@@ -21,37 +21,37 @@ use Rattle.param_value.proofs.Types.{is_real, value-unsigned, value-signed, valu
 -- ---- a real, over its format: W has the numbers, N the NaNs
 
 module _ (f : Format) (W : Float → Value) (N : ℕ → Value) where
-  abbrev realIs : ℕ → Value
-  realIs n = pick (nan_bits f n) (N n) (W (of_bits f n))
+  abbrev real_is : ℕ → Value
+  real_is n = pick (nan_bits f n) (N n) (W (of_bits f n))
 
-  real-nan : (n : ℕ) → nan_bits f n ≡ true → realIs n ≡ N n
+  real-nan : (n : ℕ) → nan_bits f n ≡ true → real_is n ≡ N n
   real-nan n e = ap (λ (b : Bool). pick b (N n) (W (of_bits f n))) e
 
-  real-number : (n : ℕ) → nan_bits f n ≡ false → realIs n ≡ W (of_bits f n)
+  real-number : (n : ℕ) → nan_bits f n ≡ false → real_is n ≡ W (of_bits f n)
   real-number n e = ap (λ (b : Bool). pick b (N n) (W (of_bits f n))) e
 
   real-back : (bits : Value → Answer ℕ) → ((n : ℕ) → bits (N n) ≡ refuse_if (not (nan_bits f n)) (refusal 24 []) (gives n))
-      → ((x : Float) → bits (W x) ≡ refuse_if (is_nan x) (refusal 24 []) (gives (to_bits f x))) → (n : ℕ) → n < 2 * top f → bits (realIs n) ≡ gives n
+      → ((x : Float) → bits (W x) ≡ refuse_if (is_nan x) (refusal 24 []) (gives (to_bits f x))) → (n : ℕ) → n < 2 * top f → bits (real_is n) ≡ gives n
   real-back bits a b n h = by-test (nan_bits f n) refl
     where
-      by-test : (t : Bool) → nan_bits f n ≡ t → bits (realIs n) ≡ gives n
+      by-test : (t : Bool) → nan_bits f n ≡ t → bits (real_is n) ≡ gives n
       by-test true e = ap bits (real-nan n e) ∙ a n ∙ refuse-no _ _ _ (ap not e)
       by-test false e = ap bits (real-number n e) ∙ b (of_bits f n) ∙ refuse-no _ _ _ (pattern_number f n e) ∙ ap gives (pattern-kept f n h e)
 
-  nan-again : (b n : ℕ) → b < 2 * top f → refuse_if (not (nan_bits f b)) (refusal 24 []) (gives b) ≡ gives n → (n < 2 * top f) × (realIs n ≡ N b)
+  nan-again : (b n : ℕ) → b < 2 * top f → refuse_if (not (nan_bits f b)) (refusal 24 []) (gives b) ≡ gives n → (n < 2 * top f) × (real_is n ≡ N b)
   nan-again b n h e =
       let q = refuse-gives _ _ _ n e in
       let j : b ≡ n = gives-inj b n q.1 in (
         subst (λ (m : ℕ). m < 2 * top f) j h,
-        subst (λ (m : ℕ). realIs m ≡ N b) j (real-nan b (not-false _ q.0)),
+        subst (λ (m : ℕ). real_is m ≡ N b) j (real-nan b (not-false _ q.0)),
       )
 
-  number-again : (x : Float) (n : ℕ) → T (fits f x) → refuse_if (is_nan x) (refusal 24 []) (gives (to_bits f x)) ≡ gives n → (n < 2 * top f) × (realIs n ≡ W x)
+  number-again : (x : Float) (n : ℕ) → T (fits f x) → refuse_if (is_nan x) (refusal 24 []) (gives (to_bits f x)) ≡ gives n → (n < 2 * top f) × (real_is n ≡ W x)
   number-again x n h e =
       let q = refuse-gives _ _ _ n e in
       let j : to_bits f x ≡ n = gives-inj (to_bits f x) n q.1 in (
         subst (λ (m : ℕ). m < 2 * top f) j (to_bits-lt f x h),
-        subst (λ (m : ℕ). realIs m ≡ W x) j (real-number (to_bits f x) (number-pattern f x h q.0) ∙ ap W (number-kept f x h)),
+        subst (λ (m : ℕ). real_is m ≡ W x) j (real-number (to_bits f x) (number-pattern f x h q.0) ∙ ap W (number-kept f x h)),
       )
 
 -- ---- the two formats
@@ -59,7 +59,7 @@ module _ (f : Format) (W : Float → Value) (N : ℕ → Value) where
 -- the type is the real of format f
 record IsFormat (ptc pfc : ℕ) (f : Format) (W : Float → Value) (N : ℕ → Value) : Type 0 where
   numbers : 2 * top f ≡ 256 ^ octets_for ptc pfc
-  value : (n : ℕ) → value_of ptc pfc n ≡ realIs f W N n
+  value : (n : ℕ) → value_of ptc pfc n ≡ real_is f W N n
 
 differ : (a b c : ℕ) → a ≡ b → (b ≡ c → ⊥) → a ≡ c → ⊥
 differ a b c e f g = f (sym e ∙ g)
@@ -133,7 +133,7 @@ pub record Again (ptc pfc : ℕ) (v : Value) (n : ℕ) : Type 0 where
   pub within : n < 256 ^ octets_for ptc pfc
   pub same : value_of ptc pfc n ≡ v
 
-format-again : (ptc pfc : ℕ) (f : Format) (W : Float → Value) (N : ℕ → Value) (v : Value) (n : ℕ) → IsFormat ptc pfc f W N → (n < 2 * top f) × (realIs f W N n ≡ v) → Again ptc pfc v n
+format-again : (ptc pfc : ℕ) (f : Format) (W : Float → Value) (N : ℕ → Value) (v : Value) (n : ℕ) → IsFormat ptc pfc f W N → (n < 2 * top f) × (real_is f W N n ≡ v) → Again ptc pfc v n
 format-again ptc pfc f W N v n a s = record { within = subst (λ (j : ℕ). n < j) a.numbers s.0; same = a.value n ∙ s.1 }
 
 bits-again : (ptc pfc : ℕ) (v : Value) (n : ℕ) → Held v → PatternIs ptc pfc v n → Again ptc pfc v n

@@ -118,16 +118,16 @@ length-not-is (refuses d) e p = ap refuses (refuses-inj d e p)
 -- ---- a pair
 
 module _ (l : List Row) (p : Pair) where
-  abbrev rowOfPair : Row
-  rowOfPair = row_of l p.id
+  abbrev row_of_pair : Row
+  row_of_pair = row_of l p.id
 
-  pub pair-refused : (e : Numbers) → pattern_of (ptc_of rowOfPair) (pfc_of rowOfPair) p.value ≡ refuses e → pair_octets l p ≡ refuses e
+  pub pair-refused : (e : Numbers) → pattern_of (ptc_of row_of_pair) (pfc_of row_of_pair) p.value ≡ refuses e → pair_octets l p ≡ refuses e
   unfolding pair_octets
   pair-refused e h = refuses-then _ _ e (octets-refused _ _ _ e h)
 
   pub record PairOctets (o : List ℕ) : Type 0 where
     pub value : List ℕ
-    pub are : value_octets (ptc_of rowOfPair) (pfc_of rowOfPair) p.value ≡ gives value
+    pub are : value_octets (ptc_of row_of_pair) (pfc_of row_of_pair) p.value ≡ gives value
     pub is : be16 p.id ++ value ≡ o
 
   pub pair-octets-are : (o : List ℕ) → pair_octets l p ≡ gives o → PairOctets o
@@ -140,7 +140,7 @@ module _ (l : List Row) (p : Pair) where
       let w = written-length _ _ _ r.value r.are in
       let e : length (be16 p.id ++ r.value) ≡ 2 + octets_in l p.id = omega (arith, w) in ap length (sym r.is) ∙ e
 
-  pub pair-given : (n : ℕ) → pattern_of (ptc_of rowOfPair) (pfc_of rowOfPair) p.value ≡ gives n → length_of (pair_octets l p) ≡ gives (2 + octets_in l p.id)
+  pub pair-given : (n : ℕ) → pattern_of (ptc_of row_of_pair) (pfc_of row_of_pair) p.value ≡ gives n → length_of (pair_octets l p) ≡ gives (2 + octets_in l p.id)
   unfolding pair_octets
   pair-given n h =
       let g : pair_octets l p ≡ gives (be16 p.id ++ octets_of (octets_in l p.id) n) = gives_then _ _ _ (octets-given _ _ _ n h) in
@@ -150,7 +150,7 @@ module _ (l : List Row) (p : Pair) where
   pair-ten k h =
       let t = length-is (pair_octets l p) k h in
       let e = pair-length t.0 t.1 in
-      let m = octets-le (ptc_of rowOfPair) (pfc_of rowOfPair) in
+      let m = octets-le (ptc_of row_of_pair) (pfc_of row_of_pair) in
       let j = t.2 in omega (arith, e, m, j)
 
 pub pairs-ten : (l : List Row) (ps : List Pair) (o : List ℕ) → pairs_octets l ps ≡ gives o → length o ≤ 10 * length ps

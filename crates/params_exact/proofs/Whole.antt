@@ -16,7 +16,7 @@ use Rattle.ecss.specs.Kind.{Rules}
 use Rattle.ecss.proofs.Pieces.{octets-drop, octets-take}
 use Rattle.exactness.specs.Demand3.{Fits, Room, Accepted}
 use Rattle.ecss.specs.Version.{default_config}
-use Rattle.ecss_write.specs.Writer.{packet_by, newBy}
+use Rattle.ecss_write.specs.Writer.{packet_by, new_by}
 use Rattle.tc_write.specs.Command.{command_in}
 use Rattle.tc_write.specs.Creator.{creator_in, new_in, PacketWrote}
 use Rattle.tc_write.specs.declared.PusTcCreator.{PusTcCreator}
@@ -27,7 +27,7 @@ use Rattle.tc_header.specs.declared.PusTcSecondaryHeader.{PusTcSecondaryHeader}
 use Rattle.tc_read.specs.Read.{start_in, app_data_in}
 use Rattle.tc_read.specs.declared.PusTcRecord.{PusTcRecord}
 use Rattle.tc_strict.specs.Verdict.{strict_in}
-use Rattle.tc_demand3.specs.Rules.{Telecommand, reportFor}
+use Rattle.tc_demand3.specs.Rules.{Telecommand, report_for}
 use Rattle.tc_demand3.proofs.Demand3.{exactly, reports, reader-reports, reported-data, made-under-rules, written-accepted}
 use Rattle.params.specs.Parameters.{Row}
 use Rattle.params.specs.Request.{holding, pairs_of, read_request, kept_of, params_kept}
@@ -47,9 +47,9 @@ module _ (f : TcForm) (l : List Row) (s : List ℕ) (ps : List Pair) where
       let x = (exactly f good s o).0 (r.record_of, r.accepted) in
       let p = x.0 in
       let b = x.1 in
-      let e : reportFor f p ≡ r.record_of = gives-inj _ _ (sym (reports f good s p b) ∙ r.accepted) in
+      let e : report_for f p ≡ r.record_of = gives-inj _ _ (sym (reports f good s p b) ∙ r.accepted) in
       let d = (reader-reports f good s p b).2 in
-      let u : Octets p.user = subst Octets (reported-data f good s p b) (octets-take ((reportFor f p).end - (reportFor f p).start) (drop (start_in f) s) (octets-drop (start_in f) s o)) in
+      let u : Octets p.user = subst Octets (reported-data f good s p b) (octets-take ((report_for f p).end - (report_for f p).start) (drop (start_in f) s) (octets-drop (start_in f) s o)) in
       record {
         packet = p;
         begins = b;
@@ -63,7 +63,7 @@ module _ (f : TcForm) (l : List Row) (s : List ℕ) (ps : List Pair) where
       let p = c.packet in
       let b = c.begins in
       record {
-        record_of = reportFor f p;
+        record_of = report_for f p;
         accepted = reports f good s p b;
         type-is = c.type-is;
         read = ap (read_request l) (reader-reports f good s p b).2 ∙ read-written l ps p.user w c.octets;
@@ -94,14 +94,14 @@ read_told l d k e h =
 
 -- what a write of the command leaves is read as its pairs
 pub sent-read : (f : TcForm) → form_check f ≡ gives tt → (l : List Row) (ps : List Pair) (p : Telecommand) (before after : List ℕ) (r : SizeResult) → HeldAll ps → request_for l ps ≡ gives p.user
-    → Rules (tc f) p → Accepted (tc f) (reportFor f) (strict_in f) p before r after → read_request l (app_data_in f after true) ≡ gives ps
+    → Rules (tc f) p → Accepted (tc f) (report_for f) (strict_in f) p before r after → read_request l (app_data_in f after true) ≡ gives ps
 sent-read f good l ps p before after r w q u a =
     ap (read_request l) (reader-reports f good after p (record { rules = u; rest = _; octets = a.leaves })).2 ∙ read-written l ps p.user w q
 
 -- the creator has a checksum
 pub sent-accepted : (t : PusTcCreator) → form_check t.form ≡ gives tt → (d before after : List ℕ) (r : SizeResult) → t.has_checksum ≡ true
     → Rules (tc t.form) (packet_by t.sp_header t.sec_header d) → Room (tc t.form) d before → PacketWrote t d before r after
-    → Accepted (tc t.form) (reportFor t.form) (strict_in t.form) (packet_by t.sp_header t.sec_header d) before r after
+    → Accepted (tc t.form) (report_for t.form) (strict_in t.form) (packet_by t.sp_header t.sec_header d) before r after
 sent-accepted t good d before after r h u m w =
     written-accepted t.form good t.sp_header t.sec_header d before after r u m
     (subst (λ (b : Bool). PacketWrote (creator_in t.form t.sp_header t.sec_header b) d before r after) h w)
@@ -117,6 +117,6 @@ data-by f g s e = ap (λ (z : TcForm). app_data_in z s true) e
 pub made-sendable : (f : TcForm) → form_check f ≡ gives tt → (h : SpacePacketHeader) (x : PusTcSecondaryHeader) (d before : List ℕ) (t : PusTcCreator) → h.version ≡ 0 → is_idle h.packet_id.apid ≡ false → x.version ≡ f.version
     → new_in f h x (length d) default_config ≡ gives t → Fits (tc f) d before → Sendable t d before
 made-sendable f good h x d before t v i c p m =
-    let a = then-gives (newBy (command_in f) h x true true (length d)) _ t p in
+    let a = then-gives (new_by (command_in f) h x true true (length d)) _ t p in
     subst (λ (u : PusTcCreator). Sendable u d before) (gives-inj _ t a.2)
     (record { form-good = good; checksummed = refl; rules = made-under-rules f good h x d _ v i c (gives_then _ _ _ a.1); fits = m })

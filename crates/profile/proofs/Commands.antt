@@ -14,7 +14,7 @@ use Rattle.ecss.specs.Version.{default_config}
 use Rattle.ecss.specs.declared.PusVersion.TheVariants.{PusC}
 use Rattle.ecss.proofs.Versions.{version-passes}
 use Rattle.ecss_write.specs.Write.{write_in}
-use Rattle.ecss_write.specs.Writer.{start_by, madeBy, checkBy, newBy}
+use Rattle.ecss_write.specs.Writer.{start_by, made_by, check_by, new_by}
 use Rattle.ecss_write.proofs.Totals.{total-length}
 use Rattle.ecss_write.proofs.Written.{write-by-room}
 use Rattle.exactness.proofs.Given.{check-made, new-handed}
@@ -28,10 +28,10 @@ use Rattle.profile.specs.declared.ProfileTc.{ProfileTc}
 
 -- the creator c is made of the command and its data: every field is within its width, and the packet within the limit and the rules
 pub record Made (t : ProfileTc) (d : List ℕ) (c : PusTcCreator) : Type 0 where
-  pub checked : checkBy command_c (header_for t) (sec_for t) ≡ gives tt
+  pub checked : check_by command_c (header_for t) (sec_for t) ≡ gives tt
   pub at_most : start_by command_c + length d + 2 ≤ 65542
-  pub ruled : profile_rule (madeBy command_c (header_for t) d) (sec_for t) ≡ gives tt
-  pub is : c ≡ creator_of (madeBy command_c (header_for t) d) (sec_for t) true
+  pub ruled : profile_rule (made_by command_c (header_for t) d) (sec_for t) ≡ gives tt
+  pub is : c ≡ creator_of (made_by command_c (header_for t) d) (sec_for t) true
 
 -- what is asked after a size that is not refused
 then-passed : (a : Answer ℕ) (v : Passed) → v ≡ gives tt → (a then λ n. v then λ _. gives n) ≡ a
@@ -42,9 +42,9 @@ then-passed (gives n) v p = gives_then _ _ tt p
 module _ (t : ProfileTc) (d : List ℕ) where
   -- so far it is construction's
   pub constructed : (c : PusTcCreator) → new_of (header_for t) (sec_for t) (length d) default_config ≡ gives c
-      → (checkBy command_c (header_for t) (sec_for t) ≡ gives tt) × (start_by command_c + length d + 2 ≤ 65542) × (c ≡ creator_of (madeBy command_c (header_for t) d) (sec_for t) true)
+      → (check_by command_c (header_for t) (sec_for t) ≡ gives tt) × (start_by command_c + length d + 2 ≤ 65542) × (c ≡ creator_of (made_by command_c (header_for t) d) (sec_for t) true)
   constructed c p =
-      let n = then-gives (newBy command_c (header_for t) (sec_for t) true true (length d)) _ c p in
+      let n = then-gives (new_by command_c (header_for t) (sec_for t) true true (length d)) _ c p in
       let k = new-handed command_c writer-laws-c (header_for t) (sec_for t) d n.0 n.1 in
       (k.0, k.1, sym (gives-inj _ c n.2) ∙ ap (λ (h : SpacePacketHeader). creator_of h (sec_for t) true) k.2)
 
@@ -73,11 +73,11 @@ module _ (t : ProfileTc) (d : List ℕ) where
     unfolding write_in
     write-is m =
         let k = made c p in
-        let h = madeBy command_c (header_for t) d in
+        let h = made_by command_c (header_for t) d in
         let room = gives_then _ _ tt (check-made command_c writer-laws-c (header_for t) (sec_for t) _ ∙ k.checked)
         ∙ gives_then _ (in_buffer m) _ (total-length (start_by command_c) true (length d) _ refl (omega (arith, k.at_most))) in
         ap (λ (u : PusTcCreator). write_of u (length d) m) k.is
-        ∙ write-by-room (checkBy command_c h (sec_for t)) _ (start_by command_c) true (length d) m
+        ∙ write-by-room (check_by command_c h (sec_for t)) _ (start_by command_c) true (length d) m
         ∙ ap (λ (z : Answer ℕ). z then λ n. command_c.version (sec_for t) then λ _. gives n) room
         ∙ then-passed _ _ ((version-passes PusC PusC).1 refl)
         ∙ sym (gives_then _ _ _ length-is)

@@ -14,7 +14,7 @@ use Rattle.ecss.specs.Kind.{Packet, packet_of}
 use Rattle.ecss.specs.Version.{message_type_of, default_config}
 use Rattle.ecss.specs.declared.MessageTypeId.{MessageTypeId}
 use Rattle.ecss.specs.declared.PusVersion.TheVariants.{PusC}
-use Rattle.ecss_write.specs.Writer.{packet_by, madeBy}
+use Rattle.ecss_write.specs.Writer.{packet_by, made_by}
 use Rattle.tc_header.specs.Header.{sec_from, pus_c}
 use Rattle.tc_header.specs.declared.AckFlags.{AckFlags}
 use Rattle.tc_header.specs.declared.PusTcSecondaryHeader.{PusTcSecondaryHeader}
@@ -44,7 +44,7 @@ sec_for t = sec_from t.message_type_id t.ack_flags t.source_id PusC
 
 -- the packet that it is with the data d, and its octets, a checksum behind them
 abbrev pub command_of : ProfileTc → List ℕ → Packet PusTcSecondaryHeader
-command_of t d = packet_by (madeBy command_c (header_for t) d) (sec_for t) d
+command_of t d = packet_by (made_by command_c (header_for t) d) (sec_for t) d
 
 abbrev pub octets_of : ProfileTc → List ℕ → List ℕ
 octets_of t d = packet_of pus_c (command_of t d)

@@ -15,7 +15,7 @@ use Rattle.space_packet.proofs.Answers.{gives-inj, then-gives, gives_then, refus
 use Rattle.ecss.specs.Frame.{Octets}
 use Rattle.ecss.specs.declared.MessageTypeId.{MessageTypeId}
 use Rattle.ecss.specs.Kind.{Rules, BeginsWith, packet_of}
-use Rattle.ecss_write.specs.Writer.{packet_by, madeBy, Handed}
+use Rattle.ecss_write.specs.Writer.{packet_by, made_by, Handed}
 use Rattle.ecss_write.proofs.Totals.{in-buffer-is}
 use Rattle.exactness.specs.Demand3.{total_for}
 use Rattle.exactness.proofs.Given.{checked, handed-rules, handed-new}
@@ -29,7 +29,7 @@ use Rattle.tc_write.specs.declared.PusTcCreator.{PusTcCreator}
 use Rattle.tc_write.proofs.Command.{writer-laws-c}
 use Rattle.tc_read.specs.Read.{app_data_of}
 use Rattle.tc_read.specs.declared.PusTcRecord.{PusTcRecord}
-use Rattle.tc_demand3.specs.Rules.{Telecommand, reportFor}
+use Rattle.tc_demand3.specs.Rules.{Telecommand, report_for}
 use Rattle.tc_demand3.proofs.Demand3.{reports, reader-reports, exactly-c, written-again}
 use Rattle.profile.specs.Rules.{profile_rule, profile_of}
 use Rattle.profile.specs.Builder.{command_from, header_for, sec_for, command_of, octets_of, creator_for, built_for, header_with, length_with, write_for, CommandWrote, builder_of, with_apid, with_psc, with_type, with_source, with_ack, builder_kept}
@@ -48,7 +48,7 @@ module _ (t : ProfileTc) (d : List ℕ) (c : PusTcCreator) (p : creator_for t (l
   under-rules =
       let m = made t d c p in
       let k = checked command_c writer-laws-c (header_for t) (sec_for t) m.checked in
-      let w = (rule-within (madeBy command_c (header_for t) d) (sec_for t) (length d) (omega arith)).0 m.ruled in
+      let w = (rule-within (made_by command_c (header_for t) d) (sec_for t) (length d) (omega arith)).0 m.ruled in
       handed-rules command_c writer-laws-c (header_for t) (sec_for t) d
       (record {
         in-range = k.1;
@@ -59,7 +59,7 @@ module _ (t : ProfileTc) (d : List ℕ) (c : PusTcCreator) (p : creator_for t (l
       })
 
   -- and so is accepted, with anything after it
-  made-accepted : (rest : List ℕ) → profile_of (octets_of t d ++ rest) ≡ gives (reportFor form_c (command_of t d))
+  made-accepted : (rest : List ℕ) → profile_of (octets_of t d ++ rest) ≡ gives (report_for form_c (command_of t d))
   made-accepted rest =
       gives-profile _ _
       (reports form_c taken-c _ (command_of t d) (record { rules = under-rules; rest = rest; octets = refl }))
@@ -68,7 +68,7 @@ module _ (t : ProfileTc) (d : List ℕ) (c : PusTcCreator) (p : creator_for t (l
 module _ (t : ProfileTc) (d before after : List ℕ) (r : SizeResult) where
   -- Whatever octets the write leaves as written are accepted: for every command, all data and every buffer.
   pub written-accepted : (n : ℕ) → CommandWrote t d before r after → size_answer r ≡ gives n
-      → (n ≡ total_for pus_c d) × (profile_of after ≡ gives (reportFor form_c (command_of t d)))
+      → (n ≡ total_for pus_c d) × (profile_of after ≡ gives (report_for form_c (command_of t d)))
   written-accepted n w e =
       let a = sym w.answered ∙ e in
       let l = then-gives (length_with t (length d)) _ n a in
@@ -92,7 +92,7 @@ module _ (t : ProfileTc) (d before after : List ℕ) (r : SizeResult) where
 -- of a packet under the written rules, the fields that the setters are given
 module _ (p : Telecommand) (u : Rules pus_c p) where
   abbrev fields : ProfileTc
-  fields = fields_of (reportFor form_c p)
+  fields = fields_of (report_for form_c p)
 
   -- a command with these fields and its data is that packet: all else is as the rules have it
   pub command-back : command_of fields p.user ≡ p
@@ -135,7 +135,7 @@ module _ (p : Telecommand) (u : Rules pus_c p) where
       ∙ gives_then _ _ tt (ap (λ (z : Telecommand). profile_rule z.primary z.secondary) c ∙ k))
 
 -- the packet that accepted octets begin with
-packet-in : (s : List ℕ) (r : PusTcRecord) → Octets s → profile_of s ≡ gives r → (p : Telecommand) × (BeginsWith pus_c s p × (reportFor form_c p ≡ r))
+packet-in : (s : List ℕ) (r : PusTcRecord) → Octets s → profile_of s ≡ gives r → (p : Telecommand) × (BeginsWith pus_c s p × (report_for form_c p ≡ r))
 packet-in s r o a =
     let q = (profile-gives s r a).0 in
     let b = (exactly-c s o).0 (r, q) in

@@ -27,7 +27,7 @@ use Rattle.tc_header.proofs.Forms.{taken-c}
 use Rattle.tc_read.specs.Read.{start_c, record_in}
 use Rattle.tc_read.specs.declared.PusTcRecord.{PusTcRecord}
 use Rattle.tc_strict.specs.Verdict.{strict_in, strict_of}
-use Rattle.tc_demand3.specs.Rules.{Telecommand, reportFor}
+use Rattle.tc_demand3.specs.Rules.{Telecommand, report_for}
 use Rattle.tc_demand3.proofs.Demand3.{reports, exactly-c, changed-refused, up-to-three-refused-c}
 use Rattle.profile.specs.Rules.{most_octets, fewest_octets, unsegmented, apid_limit, service_of, test_service, rules, profile_rule, profile_of}
 use Rattle.profile_exact.specs.Within.{Within, Meets, MeetsRecord, Exactly, RefusesAnyThree}
@@ -144,7 +144,7 @@ accepts-exactly s r = (
 )
 
 -- A packet under the written rules that meets the profile's is reported,
-pub reports-within : (s : List ℕ) (p : Telecommand) → BeginsWith pus_c s p → Meets p → profile_of s ≡ gives (reportFor form_c p)
+pub reports-within : (s : List ℕ) (p : Telecommand) → BeginsWith pus_c s p → Meets p → profile_of s ≡ gives (report_for form_c p)
 reports-within s p b m =
     gives-profile s _ (reports form_c taken-c s p b) ((rule-within _ _ _ b.rules.stated.states-length).1 m)
 
@@ -157,7 +157,7 @@ begins-within s o = (
       let e = gives-inj _ _ (sym q.0 ∙ reports form_c taken-c s p.0 p.1) in
       let k = ap (λ (z : PusTcRecord). profile_rule z.sp_header z.sec_header) (sym e) ∙ q.1 in
       (p.0, (p.1, (rule-within _ _ _ p.1.rules.stated.states-length).0 k)),
-  λ p. (reportFor form_c p.0, reports-within s p.0 p.1.0 p.1.1),
+  λ p. (report_for form_c p.0, reports-within s p.0 p.1.0 p.1.1),
 )
 
 -- So much is asked of the verdict on s.

@@ -11,7 +11,7 @@ use Rattle.space_packet.specs.Header.{packet_len}
 use Rattle.space_packet.specs.declared.SpacePacketHeader.{SpacePacketHeader}
 use Rattle.space_packet.proofs.Answers.{refuses-inj, never, gives_then, then-refused, refuses-then}
 use Rattle.ecss.specs.Version.{default_config}
-use Rattle.ecss_write.specs.Writer.{madeBy}
+use Rattle.ecss_write.specs.Writer.{made_by}
 use Rattle.tc_header.specs.declared.PusTcSecondaryHeader.{PusTcSecondaryHeader}
 use Rattle.tc_write.specs.Command.{command_c}
 use Rattle.tc_write.specs.Creator.{new_of}
@@ -71,5 +71,5 @@ unfolding creator_for
 build-first t d c p e =
     let k = ap (λ (u : PusTcCreator). profile_rule u.sp_header u.sec_header) (constructed t d c p).2 in
     let a = behind (new_of (header_for t) (sec_for t) (length d) default_config) _ _ c p e in
-    let b = rule-first (madeBy command_c (header_for t) d) (sec_for t) (length d) (omega arith) e in
+    let b = rule-first (made_by command_c (header_for t) d) (sec_for t) (length d) (omega arith) e in
     (λ q. b.0 (sym k ∙ a.0 (then-refused _ _ e q)), λ q. refuses-then _ _ e (a.1 (k ∙ b.1 q)))

@@ -15,7 +15,7 @@ use Rattle.tc_header.specs.Header.{ack_check, pus_c}
 use Rattle.tc_header.specs.declared.PusTcSecondaryHeader.{PusTcSecondaryHeader}
 use Rattle.tc_read.specs.declared.PusTcRecord.{PusTcRecord}
 use Rattle.tc_strict.specs.Verdict.{strict_of, verdict_answer}
-use Rattle.tc_demand3.specs.Rules.{Telecommand, reportFor}
+use Rattle.tc_demand3.specs.Rules.{Telecommand, report_for}
 use Rattle.profile.specs.Rules.{is_service, asks_for_acceptance, service_of}
 use Rattle.profile.specs.Builder.{command_from, command_of}
 use Rattle.profile.specs.declared.ProfileTc.{ProfileTc}
@@ -48,7 +48,7 @@ MeetsRecord r = Within r.sp_header r.sec_header (r.end - r.start)
 pub record Exactly (a : Answer PusTcRecord) (s : List ℕ) : Type 0 where
   pub accepts : (r : PusTcRecord) → (a ≡ gives r) ↔ ((strict_of s ≡ gives r) × MeetsRecord r)
   pub begins : ((r : PusTcRecord) × (a ≡ gives r)) ↔ ((p : Telecommand) × (BeginsWith pus_c s p × Meets p))
-  pub reports : (p : Telecommand) → BeginsWith pus_c s p → Meets p → a ≡ gives (reportFor form_c p)
+  pub reports : (p : Telecommand) → BeginsWith pus_c s p → Meets p → a ≡ gives (report_for form_c p)
   pub strict-first : (e : Numbers) → strict_of s ≡ refuses e → a ≡ refuses e
 
 -- where a, the profile's answer on s, accepts, b refuses s', to which s is changed inside its stated total in one, two or three bits,
@@ -59,7 +59,7 @@ RefusesAnyThree = RefusesIf (ChangedIn UpToThree)
 -- what a write answered and the verdict on the buffer that it left: the command with the data d was written, and is accepted
 pub record IsAccepted (t : ProfileTc) (d : List ℕ) (r : Outcome) : Type 0 where
   pub answers : size_answer r.size ≡ gives (total_for pus_c d)
-  pub accepted : verdict_answer r.verdict ≡ gives (reportFor form_c (command_of t d))
+  pub accepted : verdict_answer r.verdict ≡ gives (report_for form_c (command_of t d))
 
 -- so it is, where octets were written at all
 abbrev pub AcceptedIfWritten : ProfileTc → List ℕ → Outcome → Type 0

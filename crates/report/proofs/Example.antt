@@ -14,7 +14,7 @@ use Rattle.tc_header.specs.Form.{form_check, all_zero}
 use Rattle.tc_header.specs.Header.{tc_of}
 use Rattle.tc_read.specs.Read.{record_in}
 use Rattle.tc_strict.specs.Verdict.{strict_in}
-use Rattle.tc_strict.specs.Split.{pieceBy, stepBy, walkBy}
+use Rattle.tc_strict.specs.Split.{piece_by, step_by, walk_by}
 use Rattle.report.specs.Report.{two_text, verdict_text, line_of, lines_of, body_text, report_text}
 
 abbrev ping : List ℕ
@@ -24,5 +24,5 @@ abbrev pub capture : List ℕ
 capture = ping ++ (0x61 ∷ 0x6D ∷ []) ++ ping ++ (0x61 ∷ 0x6C ∷ []) ++ (0x19 ∷ 0x23 ∷ 0xC0 ∷ [])
 
 pub reported : report_text capture ≡ ascii "tcverdict 1\n0 13 accept 17 1\n13 13 refuse 4\n26 3 tail\nend 29\n"
-unfolding ◌⊕◌ bit shift_in run octet_bits bits_of crc_from refuse_if ◌then◌ id_of psc_of read_header frame_of checked_of pus_rule strict_rule read_as judge form_check all_zero tc_of record_in strict_in pieceBy stepBy walkBy two_text verdict_text line_of lines_of body_text report_text decimal_in decimal
+unfolding ◌⊕◌ bit shift_in run octet_bits bits_of crc_from refuse_if ◌then◌ id_of psc_of read_header frame_of checked_of pus_rule strict_rule read_as judge form_check all_zero tc_of record_in strict_in piece_by step_by walk_by two_text verdict_text line_of lines_of body_text report_text decimal_in decimal
 reported = refl

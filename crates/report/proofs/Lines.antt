@@ -7,7 +7,7 @@ use lib.ListN.{length}
 use Rattle.text.specs.Page.{Page, laid}
 use Rattle.text.proofs.Pages.{and_then}
 use Rattle.tc_strict.specs.Verdict.{strict_of}
-use Rattle.tc_strict.specs.Split.{Piece, Next, end, piece, length_of, step_answer, step_of, continue, walkBy, walk_from}
+use Rattle.tc_strict.specs.Split.{Piece, Next, end, piece, length_of, step_answer, step_of, continue, walk_by, walk_from}
 use Rattle.tc_strict.specs.declared.split.Step.{Step}
 use Rattle.tc_strict.specs.declared.split.Step.TheVariants as S
 use Rattle.tc_strict.proofs.Pieces.{step_end, step_is, ended_is}
@@ -25,7 +25,7 @@ behind-next S.End last = refl
 
 -- from the capture's end on there is no piece
 pub none_left : (turns : ℕ) (s : List ℕ) (at : ℕ) → length s ≤ at → walk_from turns s at ≡ []
-unfolding walkBy
+unfolding walk_by
 none_left zero s at h = refl
 none_left (suc turns) s at h = ap (λ (x : Next). continue x (walk_from turns s)) (step_end strict_of s at h)
 
@@ -60,7 +60,7 @@ on-piece turns s t from last p q (piece c next) h e enough kept w =
 on-turns : (turns : ℕ) (s : List ℕ) (t : Page) (from last : ℕ) (p q : Page) (x : Next) → from < length s → x ≡ step_of s from
     → length s - from ≤ turns → laid p (lines_of (walk_from turns s from)) ≡ t
     → q ≡ laid p (step_text x) → On s t from (next_from x last) q
-unfolding walkBy
+unfolding walk_by
 on-turns zero s t from last p q x h e enough kept w = absurd (omega arith)
 on-turns (suc turns) s t from last p q x h e enough kept w =
     on-piece turns s t from last p q x h e enough

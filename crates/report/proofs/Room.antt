@@ -24,7 +24,7 @@ use Rattle.tc_header.specs.Header.{pus_c, tc_of}
 use Rattle.tc_read.specs.Read.{start_c, record_in}
 use Rattle.tc_read.specs.declared.PusTcRecord.{PusTcRecord}
 use Rattle.tc_strict.specs.Verdict.{strict_in, strict_of}
-use Rattle.tc_strict.specs.Split.{packet, tail, Next, end, piece, step_of, continue, walkBy, walk_from, walk}
+use Rattle.tc_strict.specs.Split.{packet, tail, Next, end, piece, step_of, continue, walk_by, walk_from, walk}
 use Rattle.tc_strict.proofs.Pieces.{step_is}
 use Rattle.report.specs.Report.{two_text, verdict_text, line_of, lines_of, body_text, report_text, room}
 use Rattle.report.proofs.Lines.{none_left}
@@ -132,7 +132,7 @@ lines-on turns s at (piece (tail a n) next) o h e on =
     simp length-append (omega arith)
 
 lines-length : (turns : ℕ) (s : List ℕ) (at : ℕ) → Octets s → length s ≤ 65536 → length (lines_of (walk_from turns s at)) ≤ 4 * (length s - at) + 13
-unfolding walkBy lines_of
+unfolding walk_by lines_of
 lines-length zero s at o h = omega arith
 lines-length (suc turns) s at o h = lines-on turns s at (step_of s at) o h refl (λ next _. lines-length turns s next o h)
 

@@ -17,7 +17,7 @@ use Rattle.ecss.specs.Frame.{Octets, Told}
 use Rattle.ecss.specs.Kind.{Rules, BeginsWith, as_idle, packet_of}
 use Rattle.ecss.specs.Version.{default_config}
 use Rattle.ecss.proofs.Versions.{version-passes}
-use Rattle.ecss_write.specs.Writer.{packet_by, madeBy, newBy, Handed}
+use Rattle.ecss_write.specs.Writer.{packet_by, made_by, new_by, Handed}
 use Rattle.exactness.specs.Demand3.{RefusesChanged, RefusesUpToThree, Exact, total_for, Room, Accepted, made_of, FinishedBy}
 use Rattle.exactness.proofs.Exact.{unique}
 use Rattle.exactness.proofs.Given.{handed-rules, handed-new, handed-reserve}
@@ -40,7 +40,7 @@ use Rattle.tc_read.proofs.Records.{checked-is}
 use Rattle.tc_read.proofs.RoundTrip.{read-written, checked-written, data-written}
 use Rattle.tc_strict.specs.Verdict.{strict_in, strict_of}
 use Rattle.tc_strict.proofs.Verdicts.{verdict-refused}
-use Rattle.tc_demand3.specs.Rules.{Telecommand, AtMost, reportFor}
+use Rattle.tc_demand3.specs.Rules.{Telecommand, AtMost, report_for}
 
 module _ (f : TcForm) (good : form_check f ≡ gives tt) where
   -- The written rules have at most so many octets of data, and so many are within them.
@@ -51,7 +51,7 @@ module _ (f : TcForm) (good : form_check f ≡ gives tt) where
 
   -- 3. The ported reader, with the checksum taken and with it taken and compared, reports the same.
   pub reader-reports : (s : List ℕ) (p : Telecommand) → BeginsWith (tc f) s p
-      → (read_in f s true ≡ gives (reportFor f p)) × (checked_in f s ≡ gives (reportFor f p)) × (app_data_in f s true ≡ p.user)
+      → (read_in f s true ≡ gives (report_for f p)) × (checked_in f s ≡ gives (report_for f p)) × (app_data_in f s true ≡ p.user)
   reader-reports s p b =
       let r = b.rules.stated in
       let e = b.octets in (
@@ -61,15 +61,15 @@ module _ (f : TcForm) (good : form_check f ≡ gives tt) where
       )
 
   -- 2. Those headers and data are what the verdict reports,
-  pub reports : (s : List ℕ) (p : Telecommand) → BeginsWith (tc f) s p → strict_in f s ≡ gives (reportFor f p)
+  pub reports : (s : List ℕ) (p : Telecommand) → BeginsWith (tc f) s p → strict_in f s ≡ gives (report_for f p)
   unfolding strict_in
   reports s p b =
       Any.accepts (form_check f) good (tc f) (laws f good) (λ z. record_in f z true) s p b
-      ∙ ap gives (sym (checked-is f s (reportFor f p) (reader-reports s p b).1).1)
+      ∙ ap gives (sym (checked-is f s (report_for f p) (reader-reports s p b).1).1)
 
   -- the octets from its start up to its end are the data,
   pub reported-data : (s : List ℕ) (p : Telecommand) → BeginsWith (tc f) s p
-      → take ((reportFor f p).end - (reportFor f p).start) (drop (reportFor f p).start s) ≡ p.user
+      → take ((report_for f p).end - (report_for f p).start) (drop (report_for f p).start s) ≡ p.user
   reported-data = Any.reported-data (tc f) (laws f good)
 
   -- and they are the only ones: one packet for one form (proofs/Spares.antt has what octets are in two).
@@ -79,7 +79,7 @@ module _ (f : TcForm) (good : form_check f ≡ gives tt) where
   -- 1. The verdict on s is accepted if and only if s begins with the packet of some headers and data under the written rules.
   pub exactly : (s : List ℕ) → Octets s → ((r : PusTcRecord) × (strict_in f s ≡ gives r)) ↔ ((p : Telecommand) × BeginsWith (tc f) s p)
   unfolding strict_in
-  exactly = Any.exactly (form_check f) good (tc f) (laws f good) (λ z. record_in f z true) (reportFor f) reports
+  exactly = Any.exactly (form_check f) good (tc f) (laws f good) (λ z. record_in f z true) (report_for f) reports
 
   -- 7. A packet that only its APID, that of idle packets, sets apart from one under the rules is refused with 12 and nothing else.
   pub idle-refused : (s : List ℕ) (p : Telecommand) → Rules (tc f) p → (rest : List ℕ) → s ≡ packet_of (tc f) (as_idle p) ++ rest → strict_in f s ≡ refuses (refusal 12 [])
@@ -97,7 +97,7 @@ module _ (f : TcForm) (good : form_check f ≡ gives tt) where
   reader-tells s e o p = tells s e o (verdict-refused f s e p)
 
   -- So much is asked of the verdict on s.
-  pub exact : (s : List ℕ) → Octets s → Exact (tc f) (reportFor f) (strict_in f s) s
+  pub exact : (s : List ℕ) → Octets s → Exact (tc f) (report_for f) (strict_in f s) s
   exact s o = record { exactly = exactly s o; reports = reports s; idle = idle-refused s; tells = λ e. tells s e o }
 
   -- 4. Written packets are accepted: whatever write_to_slice in both checksum forms, the builder's path, and the reserved writer
@@ -105,24 +105,24 @@ module _ (f : TcForm) (good : form_check f ≡ gives tt) where
   -- room and with anything after it. First write_to_slice, whose two forms have one contract:
   pub written-accepted : (h : SpacePacketHeader) (x : PusTcSecondaryHeader) (d before after : List ℕ) (r : SizeResult)
       → Rules (tc f) (packet_by h x d) → Room (tc f) d before → PacketWrote (creator_in f h x true) d before r after
-      → Accepted (tc f) (reportFor f) (strict_in f) (packet_by h x d) before r after
-  written-accepted = Any.written-accepted (command_in f) (writer-laws f good) (reportFor f) (strict_in f) reports
+      → Accepted (tc f) (report_for f) (strict_in f) (packet_by h x d) before r after
+  written-accepted = Any.written-accepted (command_in f) (writer-laws f good) (report_for f) (strict_in f) reports
 
   -- Then the builder's path. What construction or the builder makes, of packet version number 0, the form's version and no idle
   -- packet's APID, with the length set and a checksum, is under those rules,
   pub made-under-rules : (h : SpacePacketHeader) (x : PusTcSecondaryHeader) (d : List ℕ) (t : PusTcCreator) → h.version ≡ 0 → is_idle h.packet_id.apid ≡ false → x.version ≡ f.version
       → new_in f h x (length d) default_config ≡ gives t → Rules (tc f) (packet_by t.sp_header t.sec_header d)
   made-under-rules h x d t v i c p =
-      let a = then-gives (newBy (command_in f) h x true true (length d)) _ t p in
+      let a = then-gives (new_by (command_in f) h x true true (length d)) _ t p in
       subst (λ (u : PusTcCreator). Rules (tc f) (packet_by u.sp_header u.sec_header d)) (gives-inj _ t a.2)
       (Any.made-under-rules (command_in f) (writer-laws f good) h x d a.0 v i ((version-passes f.version x.version).1 c) a.1)
 
   -- and where the fields are in range too they make a creator t, and what t writes is accepted.
   pub built-accepted : (p : Telecommand) (before : List ℕ) → Handed (tc f) p → Room (tc f) p.user before
       → (t : PusTcCreator) × (new_in f p.primary p.secondary (length p.user) default_config ≡ gives t)
-      × ((r : SizeResult) (after : List ℕ) → PacketWrote t p.user before r after → Accepted (tc f) (reportFor f) (strict_in f) (made_of (command_in f) p) before r after)
+      × ((r : SizeResult) (after : List ℕ) → PacketWrote t p.user before r after → Accepted (tc f) (report_for f) (strict_in f) (made_of (command_in f) p) before r after)
   built-accepted p before g k = (
-    creator_in f (madeBy (command_in f) p.primary p.user) p.secondary true,
+    creator_in f (made_by (command_in f) p.primary p.user) p.secondary true,
     gives_then _ _ _ (handed-new (command_in f) (writer-laws f good) p.primary p.secondary p.user g),
     λ r after. written-accepted _ _ p.user before after r (handed-rules (command_in f) (writer-laws f good) p.primary p.secondary p.user g) k,
   )
@@ -130,11 +130,11 @@ module _ (f : TcForm) (good : form_check f ≡ gives tt) where
   -- Then the reserved writer: it gives a reservation q, and what is filled in there and finished is accepted.
   pub reserved-accepted : (p : Telecommand) (before : List ℕ) → Handed (tc f) p → Room (tc f) p.user before
       → (q : PusTcCreatorWithReservedAppData) × (reserve_in f p.primary p.secondary (length p.user) true (length before) ≡ gives q)
-      × ((r : SizeResult) (after : List ℕ) → FinishedBy (command_in f) (start_in q.form) q.held p before r after → Accepted (tc f) (reportFor f) (strict_in f) (made_of (command_in f) p) before r after)
+      × ((r : SizeResult) (after : List ℕ) → FinishedBy (command_in f) (start_in q.form) q.held p before r after → Accepted (tc f) (report_for f) (strict_in f) (made_of (command_in f) p) before r after)
   reserved-accepted p before g k = (
     reservation_in f (total_for (tc f) p.user) true,
     gives_then _ _ _ (handed-reserve (command_in f) (writer-laws f good) p.primary p.secondary p.user (length before) g k.fits k.is_slice),
-    Any.reserved-accepted (command_in f) (writer-laws f good) (reportFor f) (strict_in f) reports p before g k,
+    Any.reserved-accepted (command_in f) (writer-laws f good) (report_for f) (strict_in f) reports p before g k,
   )
 
   -- 5. An accepted s, changed to s' in an odd number of bits, in some bits within a run of 16, or in two within a run of 32,767, none of
@@ -154,7 +154,7 @@ module _ (f : TcForm) (good : form_check f ≡ gives tt) where
       → take r.total s ≡ packet_of (tc f) (packet_by r.sp_header r.sec_header (app_data_in f s true))
   unfolding strict_in
   written-again =
-      Any.written-again (form_check f) good (tc f) (laws f good) (λ z. record_in f z true) (reportFor f) reports
+      Any.written-again (form_check f) good (tc f) (laws f good) (λ z. record_in f z true) (report_for f) reports
       (λ (r : PusTcRecord). r.total) (λ p. refl)
       (λ s r. packet_by r.sp_header r.sec_header (app_data_in f s true)) (λ s p b. ap (packet_by p.primary p.secondary) (reader-reports s p b).2)
 

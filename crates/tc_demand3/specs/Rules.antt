@@ -25,8 +25,8 @@ module _ (f : TcForm) where
   AtMost p = length p.user ≤ 65542 - start_in f - 2
 
   -- what is reported of it
-  abbrev pub reportFor : Telecommand → PusTcRecord
-  reportFor p = record {
+  abbrev pub report_for : Telecommand → PusTcRecord
+  report_for p = record {
     sp_header = p.primary;
     sec_header = p.secondary;
     start = start_in f;
@@ -37,4 +37,4 @@ module _ (f : TcForm) where
 
   -- the verdict v accepts it and reports it
   abbrev pub Accepts : Verdict → Telecommand → Type 0
-  Accepts v p = verdict_answer v ≡ gives (reportFor p)
+  Accepts v p = verdict_answer v ≡ gives (report_for p)

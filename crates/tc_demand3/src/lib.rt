@@ -18,7 +18,7 @@ ghost use Rattle.tc_write.specs.Creator.{PacketWrote};
 ghost use Rattle.tc_read.specs.Read.{start_in};
 ghost use Rattle.tc_strict.specs.Verdict.{verdict_answer};
 ghost use Rattle.tc_demand3.specs.Cases.{ping, ping_builder};
-ghost use Rattle.tc_demand3.specs.Rules.{reportFor, Accepts};
+ghost use Rattle.tc_demand3.specs.Rules.{report_for, Accepts};
 
 use ecss::MessageTypeId;
 use space_packet::{Apid, SeqCount, SizeResult, SpHeader};
@@ -30,7 +30,7 @@ use tc_write::{PusTcBuilder, PusTcCreator, PusTcCreatorResult};
 // ---- theorems 1, 2, 7 and 8: octets are judged
 
 fn judged(form: TcForm, octets: &[u8]) -> Verdict
-    ensures { form_check form ≡ gives tt → Exact (tc form) (reportFor form) (verdict_answer result) octets.now }
+    ensures { form_check form ≡ gives tt → Exact (tc form) (report_for form) (verdict_answer result) octets.now }
 {
     tc_strict::judge_in(form, octets)
 }

@@ -3,7 +3,7 @@ use Rattle.std.specs.Prelude.{ℕ, Bool, List, length}
 use Rattle.space_packet.specs.Answer.{Answer, gives, refuses, ◌then◌, numbers_of}
 use Rattle.space_packet.specs.declared.SpacePacketHeader.{SpacePacketHeader}
 use Rattle.ecss.specs.Kind.{start_of}
-use Rattle.ecss_write.specs.Writer.{reserveBy, headBy, headedBy}
+use Rattle.ecss_write.specs.Writer.{reserve_by, head_by, headed_by}
 use Rattle.tc_header.specs.Form.{form_c}
 use Rattle.tc_header.specs.Header.{tc}
 use Rattle.tc_write.specs.Command.{command_in}
@@ -21,7 +21,7 @@ reservation_of = reservation_in form_c
 
 -- reserving n octets in a buffer of m: 32, 19, 7, 6 for the machine size, 1, 6 for the packet limit, 3
 abbrev pub reserve_in : TcForm → SpacePacketHeader → PusTcSecondaryHeader → ℕ → Bool → ℕ → Answer PusTcCreatorWithReservedAppData
-reserve_in f h x n b m = reserveBy (command_in f) h x b n m then λ total. gives (reservation_in f total b)
+reserve_in f h x n b m = reserve_by (command_in f) h x b n m then λ total. gives (reservation_in f total b)
 
 abbrev pub reserve_of : SpacePacketHeader → PusTcSecondaryHeader → ℕ → Bool → ℕ → Answer PusTcCreatorWithReservedAppData
 reserve_of = reserve_in form_c
@@ -33,7 +33,7 @@ reserved_answer (R.Err e) = refuses (numbers_of e)
 -- what it leaves: the headers, as construction sets them, with the length; refused, what was there
 abbrev pub reserved_left_in : TcForm → SpacePacketHeader → PusTcSecondaryHeader → ℕ → Bool → List ℕ → List ℕ
 reserved_left_in f h x n b before =
-    headedBy (command_in f) (reserveBy (command_in f) h x b n (length before)) (headBy (command_in f) h x b n) before
+    headed_by (command_in f) (reserve_by (command_in f) h x b n (length before)) (head_by (command_in f) h x b n) before
 
 abbrev pub reserved_left : SpacePacketHeader → PusTcSecondaryHeader → ℕ → Bool → List ℕ → List ℕ
 reserved_left = reserved_left_in form_c

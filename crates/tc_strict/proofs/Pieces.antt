@@ -12,7 +12,7 @@ use Rattle.space_packet.specs.Bits.{pick}
 use Rattle.space_packet.specs.Answer.{Answer}
 use Rattle.ecss.specs.Frame.{stated_of}
 use Rattle.tc_read.specs.declared.PusTcRecord.{PusTcRecord}
-use Rattle.tc_strict.specs.Split.{Piece, packet, tail, end, piece, is_tail, pieceBy, length_of, stepBy}
+use Rattle.tc_strict.specs.Split.{Piece, packet, tail, end, piece, is_tail, piece_by, length_of, step_by}
 
 -- ---- what is found
 
@@ -49,27 +49,27 @@ pick_end false q m e = absurd (let z : ◌≡◌ {A = ℕ} 0 1 = cc in omega ari
 -- ---- by the verdict that each packet is given
 
 module _ (verdict : List ℕ → Answer PusTcRecord) where
-  pub step_end : (s : List ℕ) (at : ℕ) → length s ≤ at → stepBy verdict s at ≡ end
-  unfolding stepBy
+  pub step_end : (s : List ℕ) (at : ℕ) → length s ≤ at → step_by verdict s at ≡ end
+  unfolding step_by
   step_end s at h =
-      ap (λ (b : Bool). pick b end (piece (pieceBy verdict at (drop at s)) (at + length_of (pieceBy verdict at (drop at s))))) (le-leb (length s) at h)
+      ap (λ (b : Bool). pick b end (piece (piece_by verdict at (drop at s)) (at + length_of (piece_by verdict at (drop at s))))) (le-leb (length s) at h)
 
-  step-piece : (s : List ℕ) (at : ℕ) (p : Piece) → at < length s → pieceBy verdict at (drop at s) ≡ p → stepBy verdict s at ≡ piece p (at + length_of p)
-  unfolding stepBy
+  step-piece : (s : List ℕ) (at : ℕ) (p : Piece) → at < length s → piece_by verdict at (drop at s) ≡ p → step_by verdict s at ≡ piece p (at + length_of p)
+  unfolding step_by
   step-piece s at p h e =
-      ap (λ (b : Bool). pick b end (piece (pieceBy verdict at (drop at s)) (at + length_of (pieceBy verdict at (drop at s))))) (lt-leb (length s) at h)
+      ap (λ (b : Bool). pick b end (piece (piece_by verdict at (drop at s)) (at + length_of (piece_by verdict at (drop at s))))) (lt-leb (length s) at h)
       ∙ ap (λ (q : Piece). piece q (at + length_of q)) e
 
-  pub step-tail : (s : List ℕ) (at : ℕ) → at < length s → is_tail (drop at s) ≡ true → stepBy verdict s at ≡ piece (tail at (length s - at)) (length s)
-  unfolding pieceBy
+  pub step-tail : (s : List ℕ) (at : ℕ) → at < length s → is_tail (drop at s) ≡ true → step_by verdict s at ≡ piece (tail at (length s - at)) (length s)
+  unfolding piece_by
   step-tail s at h t =
       let rest = drop at s in
       let e = ap (λ (b : Bool). pick b (tail at (length rest)) (packet at (stated_of rest) (verdict (take (stated_of rest) rest)))) t ∙ ap (tail at) (length-drop at s) in
       let n : at + (length s - at) ≡ length s = omega arith in step-piece s at (tail at (length s - at)) h e ∙ ap (piece (tail at (length s - at))) n
 
   pub step-packet : (s : List ℕ) (at n : ℕ) (v : Answer PusTcRecord) → at < length s → is_tail (drop at s) ≡ false → n ≡ stated_of (drop at s)
-      → v ≡ verdict (take n (take (length s - at) (drop at s))) → stepBy verdict s at ≡ piece (packet at n v) (at + n)
-  unfolding pieceBy
+      → v ≡ verdict (take n (take (length s - at) (drop at s))) → step_by verdict s at ≡ piece (packet at n v) (at + n)
+  unfolding piece_by
   step-packet s at n v h t e k =
       let rest = drop at s in
       step-piece s at (packet at n v) h
@@ -98,14 +98,14 @@ module _ (verdict : List ℕ → Answer PusTcRecord) where
       record { begins = refl; long = omega arith; inside = omega (arith, l); judged = (refl, refl) }
 
   -- a step that finds a piece goes on behind it
-  pub step_is : (s : List ℕ) (at : ℕ) (p : Piece) (next : ℕ) → stepBy verdict s at ≡ piece p next → PieceIs s at p × (next ≡ at + length_of p)
-  unfolding stepBy pieceBy
+  pub step_is : (s : List ℕ) (at : ℕ) (p : Piece) (next : ℕ) → step_by verdict s at ≡ piece p next → PieceIs s at p × (next ≡ at + length_of p)
+  unfolding step_by piece_by
   step_is s at p next e =
-      let q = pick-piece (leb (length s) at) (pieceBy verdict at (drop at s)) p (at + length_of (pieceBy verdict at (drop at s))) next e in
+      let q = pick-piece (leb (length s) at) (piece_by verdict at (drop at s)) p (at + length_of (piece_by verdict at (drop at s))) next e in
       let h = piece_is s at (is_tail (drop at s)) (leb-false (length s) at q.0) refl in
       (subst (PieceIs s at) q.1 h, sym q.2 ∙ ap (λ (x : Piece). at + length_of x) q.1)
 
   -- and one that ends finds no octet left
-  pub ended_is : (s : List ℕ) (at : ℕ) → stepBy verdict s at ≡ end → length s ≤ at
-  unfolding stepBy
-  ended_is s at e = leb-true (length s) at (pick_end (leb (length s) at) (pieceBy verdict at (drop at s)) _ e)
+  pub ended_is : (s : List ℕ) (at : ℕ) → step_by verdict s at ≡ end → length s ≤ at
+  unfolding step_by
+  ended_is s at e = leb-true (length s) at (pick_end (leb (length s) at) (piece_by verdict at (drop at s)) _ e)

@@ -29,7 +29,7 @@ module _ (f : TcForm) (s : List ℕ) where
 
   -- by the two answers, and not by how the definition groups them
   by-answers : (a : Passed) (j : Answer (Packet PusTcSecondaryHeader)) → form_check f ≡ a → judge (tc f) s ≡ j
-      → strict_in f s ≡ After.verdictAfter (form_check f) (tc f) s (record_in f s true)
+      → strict_in f s ≡ After.verdict_after (form_check f) (tc f) s (record_in f s true)
   unfolding strict_in ◌then◌
   by-answers (refuses e) j p q = rw p refl
   by-answers (gives u) (refuses e) p q = rw (p, q) refl

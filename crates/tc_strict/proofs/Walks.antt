@@ -7,7 +7,7 @@ use native.Mathlib.Omega.{arith}
 use lib.ListN.{length}
 use Rattle.space_packet.specs.Answer.{Answer}
 use Rattle.tc_read.specs.declared.PusTcRecord.{PusTcRecord}
-use Rattle.tc_strict.specs.Split.{Piece, packet, tail, Next, end, piece, length_of, stepBy, continue, walkBy, wholeBy}
+use Rattle.tc_strict.specs.Split.{Piece, packet, tail, Next, end, piece, length_of, step_by, continue, walk_by, whole_by}
 use Rattle.tc_strict.proofs.Pieces.{begin_of, Judged, step_end, step_is, ended_is}
 
 one_piece : (p q : Piece) (m n : ℕ) → piece p m ≡ piece q n → (p ≡ q) × (m ≡ n)
@@ -40,12 +40,12 @@ TailLast (tail at n ∷ ps) = ps ≡ []
 module _ (verdict : List ℕ → Answer PusTcRecord) where
   -- from `at` on, the steps find these pieces one after the other, and then end
   unfoldable pub Steps : List ℕ → ℕ → List Piece → Type 0
-  Steps s at [] = stepBy verdict s at ≡ end
-  Steps s at (p ∷ ps) = (next : ℕ) × (stepBy verdict s at ≡ piece p next) × Steps s next ps
+  Steps s at [] = step_by verdict s at ≡ end
+  Steps s at (p ∷ ps) = (next : ℕ) × (step_by verdict s at ≡ piece p next) × Steps s next ps
 
   -- the turns suffice, since each piece has an octet
-  steps_on : (turns : ℕ) (s : List ℕ) (at : ℕ) (x : Next) → stepBy verdict s at ≡ x → length s - at ≤ suc turns
-      → ((next : ℕ) → length s - next ≤ turns → Steps s next (walkBy verdict turns s next)) → Steps s at (continue x (walkBy verdict turns s))
+  steps_on : (turns : ℕ) (s : List ℕ) (at : ℕ) (x : Next) → step_by verdict s at ≡ x → length s - at ≤ suc turns
+      → ((next : ℕ) → length s - next ≤ turns → Steps s next (walk_by verdict turns s next)) → Steps s at (continue x (walk_by verdict turns s))
   unfolding Steps
   steps_on turns s at end e h on = e
   steps_on turns s at (piece p next) e h on =
@@ -53,13 +53,13 @@ module _ (verdict : List ℕ → Answer PusTcRecord) where
       let n : next ≡ at + length_of p = q.1 in
       let l = q.0.long in (next, e, on next (omega arith))
 
-  steps-from : (turns : ℕ) (s : List ℕ) (at : ℕ) → length s - at ≤ turns → Steps s at (walkBy verdict turns s at)
-  unfolding walkBy Steps
+  steps-from : (turns : ℕ) (s : List ℕ) (at : ℕ) → length s - at ≤ turns → Steps s at (walk_by verdict turns s at)
+  unfolding walk_by Steps
   steps-from zero s at h = step_end verdict s at (omega arith)
-  steps-from (suc turns) s at h = steps_on turns s at (stepBy verdict s at) refl h (steps-from turns s)
+  steps-from (suc turns) s at h = steps_on turns s at (step_by verdict s at) refl h (steps-from turns s)
 
   -- the steps walk exactly the list that is the walk
-  pub steps-walk : (s : List ℕ) → Steps s 0 (wholeBy verdict s)
+  pub steps-walk : (s : List ℕ) → Steps s 0 (whole_by verdict s)
   steps-walk s = steps-from (length s) s 0 (omega arith)
 
   -- and no other
@@ -72,15 +72,15 @@ module _ (verdict : List ℕ → Answer PusTcRecord) where
       let e = one_piece p q a.0 b.0 (sym a.1 ∙ b.1) in
       ap₂ ◌∷◌ e.0 (steps-one s b.0 ps qs (subst (λ (n : ℕ). Steps s n ps) e.1 a.2) b.2)
 
-  pub steps-only : (s : List ℕ) (ps : List Piece) → Steps s 0 ps → ps ≡ wholeBy verdict s
-  steps-only s ps h = steps-one s 0 ps (wholeBy verdict s) h (steps-walk s)
+  pub steps-only : (s : List ℕ) (ps : List Piece) → Steps s 0 ps → ps ≡ whole_by verdict s
+  steps-only s ps h = steps-one s 0 ps (whole_by verdict s) h (steps-walk s)
 
   -- the walk ends: more turns find nothing more
-  pub walk_ends : (turns : ℕ) (s : List ℕ) → length s ≤ turns → walkBy verdict turns s 0 ≡ wholeBy verdict s
-  walk_ends turns s h = steps-only s (walkBy verdict turns s 0) (steps-from turns s 0 (omega arith))
+  pub walk_ends : (turns : ℕ) (s : List ℕ) → length s ≤ turns → walk_by verdict turns s 0 ≡ whole_by verdict s
+  walk_ends turns s h = steps-only s (walk_by verdict turns s 0) (steps-from turns s 0 (omega arith))
 
   -- and a step from the capture's end on, and only from there, ends
-  pub end-reached : (s : List ℕ) (at : ℕ) → (stepBy verdict s at ≡ end) ↔ (length s ≤ at)
+  pub end-reached : (s : List ℕ) (at : ℕ) → (step_by verdict s at ≡ end) ↔ (length s ≤ at)
   end-reached s at = (ended_is verdict s at, step_end verdict s at)
 
   contiguous-from : (s : List ℕ) (at : ℕ) (ps : List Piece) → Steps s at ps → Contiguous at ps
@@ -116,17 +116,17 @@ module _ (verdict : List ℕ → Answer PusTcRecord) where
       let m : h.0 ≡ at + n = q.1 in absurd (no-piece p h.2.0 (sym (step_end verdict s h.0 (omega arith)) ∙ h.2.1))
 
   -- packets and tail are contiguous from the capture's beginning on
-  pub walk-contiguous : (s : List ℕ) → Contiguous 0 (wholeBy verdict s)
-  walk-contiguous s = contiguous-from s 0 (wholeBy verdict s) (steps-walk s)
+  pub walk-contiguous : (s : List ℕ) → Contiguous 0 (whole_by verdict s)
+  walk-contiguous s = contiguous-from s 0 (whole_by verdict s) (steps-walk s)
 
   -- and their lengths sum to the capture's
-  pub walk-octets : (s : List ℕ) → octets_in (wholeBy verdict s) ≡ length s
-  walk-octets s = let e = octets-from s 0 (wholeBy verdict s) (omega arith) (steps-walk s) in omega arith
+  pub walk-octets : (s : List ℕ) → octets_in (whole_by verdict s) ≡ length s
+  walk-octets s = let e = octets-from s 0 (whole_by verdict s) (omega arith) (steps-walk s) in omega arith
 
   -- each packet's verdict is the strict verdict of just its octets
-  pub walk-judged : (s : List ℕ) → Each (Judged verdict s) (wholeBy verdict s)
-  walk-judged s = judged-from s 0 (wholeBy verdict s) (steps-walk s)
+  pub walk-judged : (s : List ℕ) → Each (Judged verdict s) (whole_by verdict s)
+  walk-judged s = judged-from s 0 (whole_by verdict s) (steps-walk s)
 
   -- and only the last piece is a tail
-  pub walk-tail-last : (s : List ℕ) → TailLast (wholeBy verdict s)
-  walk-tail-last s = tail_from s 0 (wholeBy verdict s) (steps-walk s)
+  pub walk-tail-last : (s : List ℕ) → TailLast (whole_by verdict s)
+  walk-tail-last s = tail_from s 0 (whole_by verdict s) (steps-walk s)

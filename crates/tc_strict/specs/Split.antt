@@ -42,37 +42,37 @@ continue (piece p next) walk = p ∷ walk next
 
 module _ (verdict : List ℕ → Answer PusTcRecord) where
   -- the piece that begins at `at`, where `rest` is what remains there
-  unfoldable pub pieceBy : ℕ → List ℕ → Piece
-  pieceBy at rest =
+  unfoldable pub piece_by : ℕ → List ℕ → Piece
+  piece_by at rest =
       pick (is_tail rest) (tail at (length rest)) (packet at (stated_of rest) (verdict (take (stated_of rest) rest)))
 
   -- one step, from the octet `at`: the piece, and where the next begins
-  unfoldable pub stepBy : List ℕ → ℕ → Next
-  stepBy s at =
-      pick (leb (length s) at) end (piece (pieceBy at (drop at s)) (at + length_of (pieceBy at (drop at s))))
+  unfoldable pub step_by : List ℕ → ℕ → Next
+  step_by s at =
+      pick (leb (length s) at) end (piece (piece_by at (drop at s)) (at + length_of (piece_by at (drop at s))))
 
   -- the walk from the octet `at` on; `turns` is no fewer than the octets that remain
-  unfoldable pub walkBy : ℕ → List ℕ → ℕ → List Piece
-  walkBy zero s at = []
-  walkBy (suc turns) s at = continue (stepBy s at) (walkBy turns s)
+  unfoldable pub walk_by : ℕ → List ℕ → ℕ → List Piece
+  walk_by zero s at = []
+  walk_by (suc turns) s at = continue (step_by s at) (walk_by turns s)
 
   -- the whole walk
-  abbrev pub wholeBy : List ℕ → List Piece
-  wholeBy s = walkBy (length s) s 0
+  abbrev pub whole_by : List ℕ → List Piece
+  whole_by s = walk_by (length s) s 0
 
 -- of a form
 abbrev pub step_in : TcForm → List ℕ → ℕ → Next
-step_in f = stepBy (strict_in f)
+step_in f = step_by (strict_in f)
 
 abbrev pub walk_in : TcForm → List ℕ → List Piece
-walk_in f = wholeBy (strict_in f)
+walk_in f = whole_by (strict_in f)
 
 -- of PUS C with no spare octets
 abbrev pub step_of : List ℕ → ℕ → Next
 step_of = step_in form_c
 
 abbrev pub walk_from : ℕ → List ℕ → ℕ → List Piece
-walk_from = walkBy (strict_in form_c)
+walk_from = walk_by (strict_in form_c)
 
 abbrev pub walk : List ℕ → List Piece
 walk = walk_in form_c

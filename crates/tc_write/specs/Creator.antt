@@ -10,7 +10,7 @@ use Rattle.ecss.specs.Frame.{same_octets}
 use Rattle.ecss.specs.declared.CreatorConfig.{CreatorConfig}
 use Rattle.ecss.specs.declared.Crc16.{Crc16}
 use Rattle.ecss_write.specs.Write.{checksum_with, kept_with}
-use Rattle.ecss_write.specs.Writer.{contentBy, octets_by, newBy, afreshBy, writeBy, bareBy, ownBy}
+use Rattle.ecss_write.specs.Writer.{content_by, octets_by, new_by, afresh_by, write_by, bare_by, own_by}
 use Rattle.tc_header.specs.Form.{form_c, same_form}
 use Rattle.tc_header.specs.Header.{same_sec}
 use Rattle.tc_write.specs.Command.{command_in}
@@ -29,7 +29,7 @@ creator_of = creator_in form_c
 
 -- its octets before the checksum, and with it, where it has one
 abbrev pub content_for : PusTcCreator → List ℕ → List ℕ
-content_for t d = contentBy (command_in t.form) t.sp_header t.sec_header d
+content_for t d = content_by (command_in t.form) t.sp_header t.sec_header d
 
 abbrev pub octets_for : PusTcCreator → List ℕ → List ℕ
 octets_for t d = octets_by (command_in t.form) t.sp_header t.sec_header t.has_checksum d
@@ -39,7 +39,7 @@ octets_for t d = octets_by (command_in t.form) t.sp_header t.sec_header t.has_ch
 -- construction: 32, 19, 7, and 6 where it sets the length
 abbrev pub new_in : TcForm → SpacePacketHeader → PusTcSecondaryHeader → ℕ → CreatorConfig → Answer PusTcCreator
 new_in f h x n config =
-    newBy (command_in f) h x config.has_checksum config.set_ccsds_len n
+    new_by (command_in f) h x config.has_checksum config.set_ccsds_len n
     then λ g. gives (creator_in f g x config.has_checksum)
 
 abbrev pub new_of : SpacePacketHeader → PusTcSecondaryHeader → ℕ → CreatorConfig → Answer PusTcCreator
@@ -61,11 +61,11 @@ with_sec t x = creator_in t.form t.sp_header x t.has_checksum
 
 -- update_ccsds_data_len: 32, 19, 7, 6
 abbrev pub updated : PusTcCreator → ℕ → Kept PusTcCreator
-updated t n = kept_with (with_header t) (afreshBy (command_in t.form) t.sp_header t.sec_header t.has_checksum n)
+updated t n = kept_with (with_header t) (afresh_by (command_in t.form) t.sp_header t.sec_header t.has_checksum n)
 
 -- the checksum over all octets before it: 32, 19, 7, 3
 abbrev pub own_checksum : PusTcCreator → List ℕ → Answer ℕ
-own_checksum t d = ownBy (command_in t.form) t.sp_header t.sec_header d
+own_checksum t d = own_by (command_in t.form) t.sp_header t.sec_header d
 
 -- the checksum that is written: none, or its own
 abbrev pub checksum_of : PusTcCreator → List ℕ → Answer Crc16
@@ -73,11 +73,11 @@ checksum_of t d = checksum_with t.has_checksum (own_checksum t d)
 
 -- writing into a buffer of m octets: 32, 19, 7, 6 for the machine size, 1, 3
 abbrev pub write_of : PusTcCreator → ℕ → ℕ → Answer ℕ
-write_of t n m = writeBy (command_in t.form) t.sp_header t.sec_header t.has_checksum n m
+write_of t n m = write_by (command_in t.form) t.sp_header t.sec_header t.has_checksum n m
 
 -- and without the checksum, for which there still must be room
 abbrev pub bare_of : PusTcCreator → ℕ → ℕ → Answer ℕ
-bare_of t n m = bareBy (command_in t.form) t.sp_header t.sec_header t.has_checksum n m
+bare_of t n m = bare_by (command_in t.form) t.sp_header t.sec_header t.has_checksum n m
 
 -- the packet stands over the first octets of the buffer, and its length is answered; refused, the buffer is as it was
 abbrev pub PacketWrote : PusTcCreator → List ℕ → List ℕ → SizeResult → List ℕ → Type 0

@@ -18,7 +18,7 @@ use Rattle.ecss.specs.Kind.{Rules, BeginsWith, as_idle, start_of, packet_of, jud
 use Rattle.ecss.specs.Version.{default_config}
 use Rattle.ecss.specs.declared.PusVersion.TheVariants.{PusC}
 use Rattle.ecss.proofs.Versions.{version-passes}
-use Rattle.ecss_write.specs.Writer.{WriterLaws, packet_by, madeBy, newBy, Handed}
+use Rattle.ecss_write.specs.Writer.{WriterLaws, packet_by, made_by, new_by, Handed}
 use Rattle.exactness.specs.Demand3.{RefusesChanged, RefusesUpToThree, Exact, total_for, Room, Accepted, made_of, FinishedBy}
 use Rattle.exactness.proofs.Exact.{unique, accepted}
 use Rattle.exactness.proofs.Given.{handed-rules, handed-new, handed-reserve}
@@ -45,7 +45,7 @@ use Rattle.tc_header.specs.declared.TcForm.{TcForm}
 use Rattle.tc_header.proofs.Forms.{taken}
 use Rattle.tc_read.specs.declared.PusTcRecord.{PusTcRecord}
 use Rattle.tc_strict.specs.Verdict as Tc
-use Rattle.tm_demand3.specs.Rules.{Telemetry, time_start, NotBoth, AtMost, reportFor}
+use Rattle.tm_demand3.specs.Rules.{Telemetry, time_start, NotBoth, AtMost, report_for}
 
 module _ (t : ℕ) (good : time_limit t ≡ gives tt) where
   -- what it owes as a writer
@@ -58,7 +58,7 @@ module _ (t : ℕ) (good : time_limit t ≡ gives tt) where
 
   -- 3. The reader, with the checksum taken and with it taken and compared, reports the same.
   pub reader-reports : (s : List ℕ) (p : Telemetry) → BeginsWith (tm t) s p
-      → (read_in t s true ≡ gives (reportFor t p)) × (checked_in t s ≡ gives (reportFor t p))
+      → (read_in t s true ≡ gives (report_for t p)) × (checked_in t s ≡ gives (report_for t p))
       × (timestamp_in t s true ≡ p.secondary.time) × (source_data_in t s true ≡ p.user)
   reader-reports s p b =
       let r = b.rules.stated in
@@ -70,23 +70,23 @@ module _ (t : ℕ) (good : time_limit t ≡ gives tt) where
       )
 
   -- 2. Those headers and data are what the verdict reports,
-  pub reports : (s : List ℕ) (p : Telemetry) → BeginsWith (tm t) s p → strict_in t s ≡ gives (reportFor t p)
+  pub reports : (s : List ℕ) (p : Telemetry) → BeginsWith (tm t) s p → strict_in t s ≡ gives (report_for t p)
   unfolding strict_in
   reports s p b =
       Any.accepts (time_limit t) good (tm t) (tm-laws t) (λ z. record_in t z true) s p b
-      ∙ ap gives (sym (checked-is t s (reportFor t p) (reader-reports s p b).1).1)
+      ∙ ap gives (sym (checked-is t s (report_for t p) (reader-reports s p b).1).1)
 
   -- the octets from its start up to its end are the data,
   pub reported-data : (s : List ℕ) (p : Telemetry) → BeginsWith (tm t) s p
-      → take ((reportFor t p).end - (reportFor t p).start) (drop (reportFor t p).start s) ≡ p.user
+      → take ((report_for t p).end - (report_for t p).start) (drop (report_for t p).start s) ≡ p.user
   reported-data = Any.reported-data (tm t) (tm-laws t)
 
   -- those from octet 13 up to its start are the time,
-  pub reported-time : (s : List ℕ) (p : Telemetry) → BeginsWith (tm t) s p → take ((reportFor t p).start - time_start) (drop time_start s) ≡ p.secondary.time
+  pub reported-time : (s : List ℕ) (p : Telemetry) → BeginsWith (tm t) s p → take ((report_for t p).start - time_start) (drop time_start s) ≡ p.secondary.time
   reported-time s p b =
       let n : start_in t - time_start ≡ t = omega arith in
       let r = reader-reports s p b in
-      ap (λ (m : ℕ). take m (drop time_start s)) n ∙ sym (time-part t s true (reportFor t p) r.0) ∙ r.2
+      ap (λ (m : ℕ). take m (drop time_start s)) n ∙ sym (time-part t s true (report_for t p) r.0) ∙ r.2
 
   -- and they are the only ones.
   pub only : (s : List ℕ) (p q : Telemetry) → BeginsWith (tm t) s p → BeginsWith (tm t) s q → p ≡ q
@@ -95,7 +95,7 @@ module _ (t : ℕ) (good : time_limit t ≡ gives tt) where
   -- 1. The verdict on s is accepted if and only if s begins with the packet of some headers, time and data under the written rules.
   pub exactly : (s : List ℕ) → Octets s → ((r : PusTmRecord) × (strict_in t s ≡ gives r)) ↔ ((p : Telemetry) × BeginsWith (tm t) s p)
   unfolding strict_in
-  exactly = Any.exactly (time_limit t) good (tm t) (tm-laws t) (λ z. record_in t z true) (reportFor t) reports
+  exactly = Any.exactly (time_limit t) good (tm t) (tm-laws t) (λ z. record_in t z true) (report_for t) reports
 
   -- 7. A packet that only its APID, that of idle packets, sets apart from one under the rules is refused with 12 and nothing else.
   pub idle-refused : (s : List ℕ) (p : Telemetry) → Rules (tm t) p → (rest : List ℕ) → s ≡ packet_of (tm t) (as_idle p) ++ rest → strict_in t s ≡ refuses (refusal 12 [])
@@ -113,7 +113,7 @@ module _ (t : ℕ) (good : time_limit t ≡ gives tt) where
   reader-tells s e o p = tells s e o (verdict-refused t s e p)
 
   -- So much is asked of the verdict on s.
-  pub exact : (s : List ℕ) → Octets s → Exact (tm t) (reportFor t) (strict_in t s) s
+  pub exact : (s : List ℕ) → Octets s → Exact (tm t) (report_for t) (strict_in t s) s
   exact s o = record { exactly = exactly s o; reports = reports s; idle = idle-refused s; tells = λ e. tells s e o }
 
   -- 4. Written packets are accepted: whatever write_to_slice in both checksum forms, construction with a write, and the reserved
@@ -121,24 +121,24 @@ module _ (t : ℕ) (good : time_limit t ≡ gives tt) where
   -- that has room and with anything after it. First write_to_slice, whose two forms have one contract:
   pub written-accepted : (h : SpacePacketHeader) (x : PusTmSecondaryHeader) (l d before after : List ℕ) (r : SizeResult)
       → Rules (tm t) (packet_by h (timed x l) d) → Room (tm t) d before → PacketWrote (creator_of t h x true) l d before r after
-      → Accepted (tm t) (reportFor t) (strict_in t) (packet_by h (timed x l) d) before r after
-  written-accepted h x l = Any.written-accepted (report_by t) laws (reportFor t) (strict_in t) reports h (timed x l)
+      → Accepted (tm t) (report_for t) (strict_in t) (packet_by h (timed x l) d) before r after
+  written-accepted h x l = Any.written-accepted (report_by t) laws (report_for t) (strict_in t) reports h (timed x l)
 
   -- Then construction. What it makes, of packet version number 0, PUS C and no idle packet's APID, with the length set and a checksum,
   -- is under those rules,
   pub made-under-rules : (h : SpacePacketHeader) (x : PusTmSecondaryHeader) (l d : List ℕ) (c : PusTmCreator) → h.version ≡ 0 → is_idle h.packet_id.apid ≡ false → x.pus_version ≡ PusC
       → new_of t h x l (length d) default_config ≡ gives c → Rules (tm t) (packet_by c.sp_header (header_with c l) d)
   made-under-rules h x l d c v i e p =
-      let a = then-gives (newBy (report_by t) h (timed x l) true true (length d)) _ c p in
+      let a = then-gives (new_by (report_by t) h (timed x l) true true (length d)) _ c p in
       subst (λ (u : PusTmCreator). Rules (tm t) (packet_by u.sp_header (header_with u l) d)) (gives-inj _ c a.2)
       (Any.made-under-rules (report_by t) laws h (timed x l) d a.0 v i ((version-passes PusC x.pus_version).1 e) a.1)
 
   -- and where the fields are in range it makes a creator c, and what c writes is accepted.
   pub built-accepted : (p : Telemetry) (before : List ℕ) → Handed (tm t) p → Room (tm t) p.user before
       → (c : PusTmCreator) × (new_of t p.primary p.secondary.fields p.secondary.time (length p.user) default_config ≡ gives c)
-      × ((r : SizeResult) (after : List ℕ) → PacketWrote c p.secondary.time p.user before r after → Accepted (tm t) (reportFor t) (strict_in t) (made_of (report_by t) p) before r after)
+      × ((r : SizeResult) (after : List ℕ) → PacketWrote c p.secondary.time p.user before r after → Accepted (tm t) (report_for t) (strict_in t) (made_of (report_by t) p) before r after)
   built-accepted p before g k = (
-    creator_of t (madeBy (report_by t) p.primary p.user) p.secondary.fields true,
+    creator_of t (made_by (report_by t) p.primary p.user) p.secondary.fields true,
     gives_then _ _ _ (handed-new (report_by t) laws p.primary p.secondary p.user g),
     λ r after. written-accepted _ _ _ p.user before after r (handed-rules (report_by t) laws p.primary p.secondary p.user g) k,
   )
@@ -146,11 +146,11 @@ module _ (t : ℕ) (good : time_limit t ≡ gives tt) where
   -- Then the reserved writer: it gives a reservation q, and what is filled in there and finished is accepted.
   pub reserved-accepted : (p : Telemetry) (before : List ℕ) → Handed (tm t) p → Room (tm t) p.user before
       → (q : PusTmCreatorWithReservedSourceData) × (reserve_of t p.primary p.secondary (length p.user) true (length before) ≡ gives q)
-      × ((r : SizeResult) (after : List ℕ) → FinishedBy (report_by t) (start_in q.time_len) q.held p before r after → Accepted (tm t) (reportFor t) (strict_in t) (made_of (report_by t) p) before r after)
+      × ((r : SizeResult) (after : List ℕ) → FinishedBy (report_by t) (start_in q.time_len) q.held p before r after → Accepted (tm t) (report_for t) (strict_in t) (made_of (report_by t) p) before r after)
   reserved-accepted p before g k = (
     reservation_of t (total_for (tm t) p.user) true,
     gives_then _ _ _ (handed-reserve (report_by t) laws p.primary p.secondary p.user (length before) g k.fits k.is_slice),
-    Any.reserved-accepted (report_by t) laws (reportFor t) (strict_in t) reports p before g k,
+    Any.reserved-accepted (report_by t) laws (report_for t) (strict_in t) reports p before g k,
   )
 
   -- 5. An accepted s, changed to s' in an odd number of bits, in some bits within a run of 16, or in two within a run of 32,767, none of
@@ -170,7 +170,7 @@ module _ (t : ℕ) (good : time_limit t ≡ gives tt) where
       → take r.total s ≡ packet_of (tm t) (packet_by r.sp_header (timed r.sec_header (timestamp_in t s true)) (source_data_in t s true))
   unfolding strict_in
   written-again =
-      Any.written-again (time_limit t) good (tm t) (tm-laws t) (λ z. record_in t z true) (reportFor t) reports
+      Any.written-again (time_limit t) good (tm t) (tm-laws t) (λ z. record_in t z true) (report_for t) reports
       (λ (r : PusTmRecord). r.total) (λ p. refl)
       (λ s r. packet_by r.sp_header (timed r.sec_header (timestamp_in t s true)) (source_data_in t s true))
       (λ s p b. let w = reader-reports s p b in ap₂ (λ (l d : List ℕ). packet_by p.primary (timed p.secondary.fields l) d) w.2 w.3)

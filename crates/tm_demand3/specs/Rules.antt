@@ -32,8 +32,8 @@ module _ (t : ℕ) where
   AtMost p = length p.user ≤ 65527 - t
 
   -- what is reported of it
-  abbrev pub reportFor : Telemetry → PusTmRecord
-  reportFor p = record {
+  abbrev pub report_for : Telemetry → PusTmRecord
+  report_for p = record {
     sp_header = p.primary;
     sec_header = p.secondary.fields;
     start = start_in t;
@@ -44,4 +44,4 @@ module _ (t : ℕ) where
 
   -- the verdict v accepts it and reports it
   abbrev pub Accepts : Verdict → Telemetry → Type 0
-  Accepts v p = verdict_answer v ≡ gives (reportFor p)
+  Accepts v p = verdict_answer v ≡ gives (report_for p)

@@ -19,7 +19,7 @@ ghost use Rattle.tm_write.specs.Creator.{header_with, PacketWrote};
 ghost use Rattle.tm_read.specs.Read.{start_in};
 ghost use Rattle.tm_strict.specs.Verdict.{verdict_answer};
 ghost use Rattle.tc_strict.specs.Verdict as Tc;
-ghost use Rattle.tm_demand3.specs.Rules.{NotBoth, reportFor, Accepts};
+ghost use Rattle.tm_demand3.specs.Rules.{NotBoth, report_for, Accepts};
 
 use ecss::CreatorConfig;
 use space_packet::{SizeResult, SpHeader};
@@ -32,7 +32,7 @@ use tm_write::{PusTmCreator, PusTmCreatorResult};
 // ---- theorems 1, 2, 7 and 8: octets are judged
 
 fn judged(time_len: u8, octets: &[u8]) -> Verdict
-    ensures { time_limit time_len ≡ gives tt → Exact (tm time_len) (reportFor time_len) (verdict_answer result) octets.now }
+    ensures { time_limit time_len ≡ gives tt → Exact (tm time_len) (report_for time_len) (verdict_answer result) octets.now }
 {
     tm_strict::judge(time_len, octets)
 }

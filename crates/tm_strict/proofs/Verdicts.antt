@@ -21,7 +21,7 @@ use Rattle.tm_strict.specs.Verdict.{strict_in}
 module _ (t : ℕ) (s : List ℕ) where
   -- by the two answers, and not by how the definition groups them
   by-answers : (a : Passed) (j : Answer (Packet TmHeader)) → time_limit t ≡ a → judge (tm t) s ≡ j
-      → strict_in t s ≡ After.verdictAfter (time_limit t) (tm t) s (record_in t s true)
+      → strict_in t s ≡ After.verdict_after (time_limit t) (tm t) s (record_in t s true)
   unfolding strict_in ◌then◌
   by-answers (refuses e) j p q = rw p refl
   by-answers (gives u) (refuses e) p q = rw (p, q) refl

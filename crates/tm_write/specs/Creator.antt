@@ -12,7 +12,7 @@ use Rattle.ecss.specs.Kind.{start_of}
 use Rattle.ecss.specs.declared.CreatorConfig.{CreatorConfig}
 use Rattle.ecss.specs.declared.Crc16.{Crc16}
 use Rattle.ecss_write.specs.Write.{machine_total, checksum_with, kept_with}
-use Rattle.ecss_write.specs.Writer.{contentBy, octets_by, newBy, afreshBy, writeBy, bareBy, ownBy}
+use Rattle.ecss_write.specs.Writer.{content_by, octets_by, new_by, afresh_by, write_by, bare_by, own_by}
 use Rattle.tm_header.specs.Header.{TmHeader, timed, tm, time_check, same_sec}
 use Rattle.tm_header.specs.declared.PusTmSecondaryHeader.{PusTmSecondaryHeader}
 use Rattle.tm_write.specs.Report.{report_by}
@@ -30,7 +30,7 @@ header_with c l = timed c.sec_header l
 
 -- its octets before the checksum, and with it, where it has one
 abbrev pub content_for : PusTmCreator → List ℕ → List ℕ → List ℕ
-content_for c l d = contentBy (report_by c.time_len) c.sp_header (header_with c l) d
+content_for c l d = content_by (report_by c.time_len) c.sp_header (header_with c l) d
 
 abbrev pub octets_for : PusTmCreator → List ℕ → List ℕ → List ℕ
 octets_for c l d = octets_by (report_by c.time_len) c.sp_header (header_with c l) c.has_checksum d
@@ -40,7 +40,7 @@ octets_for c l d = octets_by (report_by c.time_len) c.sp_header (header_with c l
 -- construction: 14, 7, and 6 where it sets the length
 abbrev pub new_of : ℕ → SpacePacketHeader → PusTmSecondaryHeader → List ℕ → ℕ → CreatorConfig → Answer PusTmCreator
 new_of t h x l n config =
-    newBy (report_by t) h (timed x l) config.has_checksum config.set_ccsds_len n
+    new_by (report_by t) h (timed x l) config.has_checksum config.set_ccsds_len n
     then λ g. gives (creator_of t g x config.has_checksum)
 
 abbrev pub creator_answer : PusTmCreatorResult → Answer PusTmCreator
@@ -59,7 +59,7 @@ with_sec c x = creator_of c.time_len c.sp_header x c.has_checksum
 
 -- update_ccsds_data_len: 14, 7, 6
 abbrev pub updated : PusTmCreator → List ℕ → ℕ → Kept PusTmCreator
-updated c l n = kept_with (with_header c) (afreshBy (report_by c.time_len) c.sp_header (header_with c l) c.has_checksum n)
+updated c l n = kept_with (with_header c) (afresh_by (report_by c.time_len) c.sp_header (header_with c l) c.has_checksum n)
 
 -- len_written: 14, 6 for the machine size
 abbrev pub length_of : PusTmCreator → List ℕ → ℕ → Answer ℕ
@@ -67,7 +67,7 @@ length_of c l n = time_check c.time_len (length l) then λ _. machine_total (sta
 
 -- the checksum over all octets before it: 14, 7, 3
 abbrev pub own_checksum : PusTmCreator → List ℕ → List ℕ → Answer ℕ
-own_checksum c l d = ownBy (report_by c.time_len) c.sp_header (header_with c l) d
+own_checksum c l d = own_by (report_by c.time_len) c.sp_header (header_with c l) d
 
 -- the checksum that is written: 14, then none, or its own
 abbrev pub checksum_of : PusTmCreator → List ℕ → List ℕ → Answer Crc16
@@ -75,11 +75,11 @@ checksum_of c l d = time_check c.time_len (length l) then λ _. checksum_with c.
 
 -- writing into a buffer of m octets: 14, 7, 6 for the machine size, 1, 3
 abbrev pub write_of : PusTmCreator → List ℕ → ℕ → ℕ → Answer ℕ
-write_of c l n m = writeBy (report_by c.time_len) c.sp_header (header_with c l) c.has_checksum n m
+write_of c l n m = write_by (report_by c.time_len) c.sp_header (header_with c l) c.has_checksum n m
 
 -- and without the checksum, for which there still must be room
 abbrev pub bare_of : PusTmCreator → List ℕ → ℕ → ℕ → Answer ℕ
-bare_of c l n m = bareBy (report_by c.time_len) c.sp_header (header_with c l) c.has_checksum n m
+bare_of c l n m = bare_by (report_by c.time_len) c.sp_header (header_with c l) c.has_checksum n m
 
 -- the packet stands over the first octets of the buffer, and its length is answered; refused, the buffer is as it was
 abbrev pub PacketWrote : PusTmCreator → List ℕ → List ℕ → List ℕ → SizeResult → List ℕ → Type 0

@@ -7,7 +7,7 @@ use lib.ListN.{length}
 use Rattle.space_packet.specs.Answer.{gives}
 use Rattle.space_packet.proofs.Answers.{gives-inj, gives_then, never}
 use Rattle.ecss.specs.Kind.{Rules}
-use Rattle.ecss_write.specs.Writer.{packet_by, madeBy, Handed}
+use Rattle.ecss_write.specs.Writer.{packet_by, made_by, Handed}
 use Rattle.exactness.specs.Demand3.{Fits, made_of}
 use Rattle.exactness.proofs.Given.{handed-new, handed-rules}
 use Rattle.tc_header.specs.Form.{form_check}
@@ -23,14 +23,14 @@ use Rattle.tc_demand3.proofs.built.Goals as goal
 
 built-given : (f : TcForm) → form_check f ≡ gives tt → (p : Telecommand) (b : Bool) → b ≡ true → Handed (tc f) p
     → new_in f p.primary p.secondary (length p.user) (record { set_ccsds_len = true; has_checksum = b })
-    ≡ gives (creator_in f (madeBy (command_in f) p.primary p.user) p.secondary true)
+    ≡ gives (creator_in f (made_by (command_in f) p.primary p.user) p.secondary true)
 built-given f good p b h g =
     ap (λ (z : Bool). new_in f p.primary p.secondary (length p.user) (record { set_ccsds_len = true; has_checksum = z })) h
     ∙ gives_then _ _ _ (handed-new (command_in f) (writer-laws f good) p.primary p.secondary p.user g)
 
 -- what is made has that form and a checksum, and is under the rules
 made-judged : (f : TcForm) → form_check f ≡ gives tt → (t : PusTcCreator) (p : Telecommand) (before : List ℕ) (v : Verdict) → Handed (tc f) p → Fits (tc f) p.user before
-    → t ≡ creator_in f (madeBy (command_in f) p.primary p.user) p.secondary true
+    → t ≡ creator_in f (made_by (command_in f) p.primary p.user) p.secondary true
     → (form_check t.form ≡ gives tt → t.has_checksum ≡ true → Rules (tc t.form) (packet_by t.sp_header t.sec_header p.user) → Fits (tc t.form) p.user before
     → Accepts t.form v (packet_by t.sp_header t.sec_header p.user))
     → Accepts f v (made_of (command_in f) p)

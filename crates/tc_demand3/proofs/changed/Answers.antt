@@ -1,8 +1,8 @@
 -- `tc_demand3::changed` meets its contract: both verdicts are the strict one, of which theorems 5 and 9 speak.
-use Rattle.exactness.proofs.Demand3.{both-answered}
+use Rattle.exactness.proofs.Demand3.{both-answered-each}
 use Rattle.tc_demand3.proofs.Demand3.{changed-refused, up-to-three-refused}
 use Rattle.tc_demand3.proofs.changed.Goals as goal
 
 pub returns : goal.returns
 returns c =
-    λ good. both-answered _ _ c.judge_in-first.ensures c.judge_in-second.ensures (changed-refused _ good _ _) (up-to-three-refused _ good _ _)
+    λ good. both-answered-each _ _ c.judge_in-first.ensures c.judge_in-second.ensures (changed-refused _ good _ _) (up-to-three-refused _ good _ _)

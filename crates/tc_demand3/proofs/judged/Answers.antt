@@ -6,7 +6,7 @@ use Rattle.ecss.specs.Frame.{Octets}
 use Rattle.exactness.specs.Demand3.{Exact}
 use Rattle.tc_header.specs.Header.{tc}
 use Rattle.tc_read.specs.declared.PusTcRecord.{PusTcRecord}
-use Rattle.tc_demand3.specs.Rules.{reportFor}
+use Rattle.tc_demand3.specs.Rules.{report_for}
 use Rattle.tc_demand3.proofs.Demand3.{exact}
 use Rattle.tc_demand3.proofs.judged.Goals as goal
 
@@ -16,4 +16,4 @@ returns c =
     let s = a.octets.now in
     let e = c.judge_in.ensures in
     let o : Octets s = λ i. omega (arith, c.shared_slice_known-1.given i) in
-    λ good. subst (λ (v : Answer PusTcRecord). Exact (tc a.form) (reportFor a.form) v s) (sym e) (exact a.form good s o)
+    λ good. subst (λ (v : Answer PusTcRecord). Exact (tc a.form) (report_for a.form) v s) (sym e) (exact a.form good s o)

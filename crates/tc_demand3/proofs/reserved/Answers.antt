@@ -21,7 +21,7 @@ use Rattle.tc_reserved.specs.Reserved.{reserve_in, reserved_answer, reserved_lef
 use Rattle.tc_reserved.specs.declared.PusTcCreatorWithReservedAppData.{PusTcCreatorWithReservedAppData}
 use Rattle.tc_read.specs.Read.{start_in}
 use Rattle.tc_strict.specs.Verdict.{strict_in}
-use Rattle.tc_demand3.specs.Rules.{Telecommand, reportFor}
+use Rattle.tc_demand3.specs.Rules.{Telecommand, report_for}
 use Rattle.tc_demand3.proofs.Demand3.{reserved-accepted}
 use Rattle.tc_demand3.proofs.reserved.Goals as goal
 
@@ -31,7 +31,7 @@ accepted : (f : TcForm) (good : form_check f ≡ gives tt) (p : Telecommand) (be
     → l ≡ reserved_left_in f p.primary p.secondary (length p.user) true before
     → m ≡ filled_by (fill_in (start_in q.form) q.held (length l) (length p.user)) (start_in q.form) p.user l
     → Wrote (finish_in (start_in q.form) q.held (length m)) (finished q.held m) m r after
-    → strict_in f after ≡ gives (reportFor f (made_of (command_in f) p))
+    → strict_in f after ≡ gives (report_for f (made_of (command_in f) p))
 accepted f good p before g k q l m after r e o h w =
     let t = reserved-accepted f good p before g k in
     let i : q ≡ t.0 = gives-inj _ _ (e ∙ t.1) in

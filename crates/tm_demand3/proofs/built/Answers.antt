@@ -10,7 +10,7 @@ use Rattle.space_packet.proofs.Answers.{gives-inj, gives_then, never}
 use Rattle.ecss.specs.Version.{default_config}
 use Rattle.ecss.specs.declared.CreatorConfig.{CreatorConfig}
 use Rattle.ecss.specs.Kind.{Rules}
-use Rattle.ecss_write.specs.Writer.{packet_by, madeBy, Handed}
+use Rattle.ecss_write.specs.Writer.{packet_by, made_by, Handed}
 use Rattle.exactness.specs.Demand3.{Fits, made_of}
 use Rattle.exactness.proofs.Given.{handed-new, handed-rules}
 use Rattle.tm_header.specs.Header.{time_limit, timed, tm}
@@ -33,7 +33,7 @@ by_default t k p e = ap (new_of t p.primary p.secondary.fields p.secondary.time 
 
 module _ (t : ℕ) (good : time_limit t ≡ gives tt) (p : Telemetry) (g : Handed (tm t) p) where
   made : PusTmCreator
-  made = creator_of t (madeBy (report_by t) p.primary p.user) p.secondary.fields true
+  made = creator_of t (made_by (report_by t) p.primary p.user) p.secondary.fields true
 
   built-given : new_of t p.primary p.secondary.fields p.secondary.time (length p.user) default_config ≡ gives made
   unfolding made

@@ -6,7 +6,7 @@ use Rattle.ecss.specs.Frame.{Octets}
 use Rattle.exactness.specs.Demand3.{Exact}
 use Rattle.tm_header.specs.Header.{tm}
 use Rattle.tm_read.specs.declared.PusTmRecord.{PusTmRecord}
-use Rattle.tm_demand3.specs.Rules.{reportFor}
+use Rattle.tm_demand3.specs.Rules.{report_for}
 use Rattle.tm_demand3.proofs.Demand3.{exact}
 use Rattle.tm_demand3.proofs.judged.Goals as goal
 
@@ -17,4 +17,4 @@ returns c =
     let s = a.octets.now in
     let e = c.judge.ensures in
     let o : Octets s = λ i. omega (arith, c.shared_slice_known-1.given i) in
-    λ good. subst (λ (v : Answer PusTmRecord). Exact (tm t) (reportFor t) v s) (sym e) (exact t good s o)
+    λ good. subst (λ (v : Answer PusTmRecord). Exact (tm t) (report_for t) v s) (sym e) (exact t good s o)

@@ -19,7 +19,7 @@ use Rattle.tm_reserved.specs.Reserved.{reserve_of, reserved_answer, reserved_lef
 use Rattle.tm_reserved.specs.declared.PusTmCreatorWithReservedSourceData.{PusTmCreatorWithReservedSourceData}
 use Rattle.tm_read.specs.Read.{start_in}
 use Rattle.tm_strict.specs.Verdict.{strict_in}
-use Rattle.tm_demand3.specs.Rules.{Telemetry, reportFor}
+use Rattle.tm_demand3.specs.Rules.{Telemetry, report_for}
 use Rattle.tm_demand3.proofs.Demand3.{reserved-accepted}
 use Rattle.tm_demand3.proofs.reserved.Goals as goal
 
@@ -29,7 +29,7 @@ accepted : (t : ℕ) (good : time_limit t ≡ gives tt) (p : Telemetry) (before 
     → l ≡ reserved_left t p.primary p.secondary (length p.user) true before
     → m ≡ filled_by (fill_in (start_in q.time_len) q.held (length l) (length p.user)) (start_in q.time_len) p.user l
     → Wrote (finish_in (start_in q.time_len) q.held (length m)) (finished q.held m) m r after
-    → strict_in t after ≡ gives (reportFor t (made_of (report_by t) p))
+    → strict_in t after ≡ gives (report_for t (made_of (report_by t) p))
 accepted t good p before g k q l m after r e o h w =
     let z = reserved-accepted t good p before g k in
     let i : q ≡ z.0 = gives-inj _ _ (e ∙ z.1) in
