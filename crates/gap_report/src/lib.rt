@@ -1,12 +1,12 @@
 // The report of tcgaps: the gaps of a capture, one in a line, and its octets that were accepted, refused and left over.
 #![tactic(auto)]
 
-ghost use Rattle.std.specs.Prelude.{◌≡◌, ◌≤◌, OnOk, length, take};
+ghost use Rattle.std.specs.Prelude.{◌≡◌, ◌≤◌, OnErr, OnOk, length, take};
 ghost use Rattle.std.specs.Io.KnownBytes.{Appends};
 ghost use Rattle.io.specs.Counts.{IsPrefixLen};
 ghost use Rattle.text.specs.Page.{page, laid};
 ghost use Rattle.gaps.specs.Gaps.{totals_answer, gaps_of};
-ghost use Rattle.input.specs.Printing.{Rendered, Prints};
+ghost use Rattle.input.specs.Printing.{AppendsPart, Prints, PrintsPart, Rendered};
 ghost use Rattle.gap_report.specs.Report.{row_text, rows_text, total_text, end_text, gaps_text, body_text, report_text, room};
 ghost use Rattle.gap_report.specs.Program.{printed};
 
@@ -115,17 +115,19 @@ fn answer(input: Input, buf: &[u8], out: &mut [u8]) -> usize
     }
 }
 
-// Writes what is printed of an input, and no other text.
+// Writes what is printed of an input, or some beginning of it where a write fails, and no other text.
 fn print<W: Write>(writer: &mut W, input: Input, buf: &[u8], shown: &[u8]) -> io::Result<()>
     requires { shown.now ≡ printed input buf.now }
-    ensures { OnOk result (Appends (W.contents writer.old) (W.contents writer.new) (printed input buf.now)) }
+    ensures ok { OnOk result (Appends (W.contents writer.old) (W.contents writer.new) (printed input buf.now)) }
+    ensures err { OnErr result (AppendsPart (W.contents writer.old) (W.contents writer.new) (printed input buf.now)) }
 {
-    writer.write_all(shown)
+    input::put_all(writer, shown)
 }
 
 // Lists the gaps of what an input holds, up to 65,536 octets of it, and prints the report.
 pub fn run<R: Read, W: Write>(reader: &mut R, writer: &mut W) -> io::Result<()>
-    ensures { OnOk result (Prints printed (W.contents writer.old) (W.contents writer.new)) }
+    ensures ok { OnOk result (Prints printed (W.contents writer.old) (W.contents writer.new)) }
+    ensures err { OnErr result (PrintsPart printed (W.contents writer.old) (W.contents writer.new)) }
 {
     let mut buf = [0u8; 65537];
     let input = input::read_input(reader, &mut buf);

@@ -19,6 +19,12 @@ pub record Rendered (room : ℕ) (t before : List ℕ) (n : ℕ) (after : List �
   -- which is all of it where there are `room` octets
   pub whole : length t ≤ room
 
+-- known octets grow by some beginning of a text, and by nothing else
+pub record AppendsPart (before after : Option (List ℕ)) (t : List ℕ) : Type 0 where
+  pub count : ℕ
+  pub part : count ≤ length t
+  pub shown : Appends before after (take count t)
+
 -- what a program's run does to the octets that its writer holds: behind them it puts what is printed of an input, of which it has
 -- read no more octets than its buffer holds, and nothing else
 pub record Prints (printed : Input → List ℕ → List ℕ) (before after : Option (List ℕ)) : Type 0 where
@@ -27,3 +33,13 @@ pub record Prints (printed : Input → List ℕ → List ℕ) (before after : Op
   pub whole : length buffer ≡ 65537
   pub within : Within input (length buffer)
   pub shown : Appends before after (printed input buffer)
+
+-- what a run does to them that an error ends: behind them it puts some beginning of what it would have printed, and nothing else
+pub record PrintsPart (printed : Input → List ℕ → List ℕ) (before after : Option (List ℕ)) : Type 0 where
+  pub input : Input
+  pub buffer : List ℕ
+  pub whole : length buffer ≡ 65537
+  pub within : Within input (length buffer)
+  pub count : ℕ
+  pub part : count ≤ length (printed input buffer)
+  pub shown : Appends before after (take count (printed input buffer))

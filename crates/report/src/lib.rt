@@ -1,13 +1,13 @@
 // The report of tcverdict: the packets of a capture as the splitter finds them, each with its strict verdict.
 #![tactic(auto)]
 
-ghost use Rattle.std.specs.Prelude.{◌≡◌, ◌≤◌, OnOk, length, take};
+ghost use Rattle.std.specs.Prelude.{◌≡◌, ◌≤◌, OnErr, OnOk, length, take};
 ghost use Rattle.std.specs.Io.KnownBytes.{Appends};
 ghost use Rattle.io.specs.Counts.{IsPrefixLen};
 ghost use Rattle.text.specs.Page.{page, laid};
 ghost use Rattle.tc_strict.specs.Verdict.{verdict_answer};
 ghost use Rattle.tc_strict.specs.Split.{step_answer, walk};
-ghost use Rattle.input.specs.Printing.{Rendered, Prints};
+ghost use Rattle.input.specs.Printing.{AppendsPart, Prints, PrintsPart, Rendered};
 ghost use Rattle.report.specs.Report.{two_text, verdict_text, step_text, behind, lines_of, body_text, report_text, room};
 ghost use Rattle.report.specs.Program.{printed};
 
@@ -149,17 +149,19 @@ fn answer(input: Input, buf: &[u8], out: &mut [u8]) -> usize
     }
 }
 
-// Writes what is printed of an input, and no other text.
+// Writes what is printed of an input, or some beginning of it where a write fails, and no other text.
 fn print<W: Write>(writer: &mut W, input: Input, buf: &[u8], shown: &[u8]) -> io::Result<()>
     requires { shown.now ≡ printed input buf.now }
-    ensures { OnOk result (Appends (W.contents writer.old) (W.contents writer.new) (printed input buf.now)) }
+    ensures ok { OnOk result (Appends (W.contents writer.old) (W.contents writer.new) (printed input buf.now)) }
+    ensures err { OnErr result (AppendsPart (W.contents writer.old) (W.contents writer.new) (printed input buf.now)) }
 {
-    writer.write_all(shown)
+    input::put_all(writer, shown)
 }
 
 // Judges what an input holds, up to 65,536 octets of it, and prints the report.
 pub fn run<R: Read, W: Write>(reader: &mut R, writer: &mut W) -> io::Result<()>
-    ensures { OnOk result (Prints printed (W.contents writer.old) (W.contents writer.new)) }
+    ensures ok { OnOk result (Prints printed (W.contents writer.old) (W.contents writer.new)) }
+    ensures err { OnErr result (PrintsPart printed (W.contents writer.old) (W.contents writer.new)) }
 {
     let mut buf = [0u8; 65537];
     let input = input::read_input(reader, &mut buf);

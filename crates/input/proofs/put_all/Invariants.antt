@@ -1,0 +1,13 @@
+-- `input::put_all` meets its contract: each turn writes one octet or more of the text, behind those before.
+use Prim.Native.Nat.{◌≤◌, ◌-◌}
+use lib.ListN.{length, take}
+use Rattle.std.specs.Io.KnownBytes.{Appends}
+use Rattle.input.proofs.put_all.Given as goal
+
+abbrev pub invariant-loop-at : goal.invariant-loop-at
+invariant-loop-at g l =
+    (l.at ≤ length l.text) × Appends (g.W.Write.contents l.initial.writer) (g.W.Write.contents l.writer) (take l.at l.text)
+
+abbrev pub decreases-loop-at : goal.decreases-loop-at
+decreases-loop-at g l =
+    length l.text - l.at
