@@ -74,7 +74,7 @@ class Said(NamedTuple):
     seconds: float
 
     def of(self, call):
-        """What is said of a function, in a word: proved, refused at a fact or by shape, or unknown, where only a callee is refused. What
+        """What is said of a function, by the prover's name, in a word: proved, refused at a fact or by shape, or unknown, where only a callee is refused. What
         `search` is to find alone has no text that might not fit: it is refused at a fact."""
         said = self.functions.get(call, "")
         if said == "proved":
@@ -108,20 +108,6 @@ def passes(name, where):
     status, printed, seconds = told(["rt", "ci"], where, RT_JOBS="1")
     whole = re.search(r"^(\d+) passed, 0 failed\n\Z", printed, re.M)
     return Said(status == 0 and bool(whole), [], {}, printed, seconds)
-
-
-def functions_of(source):
-    """Each function below a crate's src/: its name as the prover has it, its file, and the places of its braces."""
-    for path in sorted(source.glob("*.rt")):
-        text, module = path.read_text(), "" if path.stem in ("lib", "main") else path.stem + "::"
-        inside, until = "", 0
-        for m in re.finditer(r"^impl(?:<[^>]*>)? (\w+)|^[ \t]*(?:pub(?:\(crate\))? )?(?:extern \"C\" )?fn (\w+)", text, re.M):
-            if m.group(1):
-                inside, until = m.group(1) + "::", calls.past(text, m.end(), "{", "}")
-                continue
-            call = module + (inside if m.start() < until else "") + m.group(2)
-            if place := calls.body(source, call):
-                yield call, *place
 
 
 def processor_seconds():

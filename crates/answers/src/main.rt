@@ -40,7 +40,8 @@ fn one(rt: &HostRuntime, path: &[u8]) {
     }
 }
 
-// How many files there were. Argument 0 is the program's own name; one that is longer than every path names no file.
+// How many files there were. Argument 0 is the program's own name; one that is longer than every path names no file. They are asked
+// for by number, since `args` of std would put each on the heap.
 fn files(rt: &HostRuntime) -> usize {
     let mut path = [0u8; 4096];
     for i in 1..usize::MAX {

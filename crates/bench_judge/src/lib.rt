@@ -5,16 +5,10 @@ ghost use Rattle.std.specs.Prelude.{◌≡◌};
 ghost use Rattle.tc_strict.specs.Verdict.{strict_of};
 ghost use Rattle.bench_judge.specs.Numbers.{total_number};
 
-use tc_strict::Verdict;
-
 // The octets of the packet that is accepted, 0 where it is refused.
 #[unsafe(no_mangle)]
 pub extern "C" fn port_judge(data: &[u8]) -> usize
     ensures { result ≡ total_number (strict_of «data».now) }
 {
-    let verdict = tc_strict::judge(data);
-    match verdict {
-        Verdict::Refused(_) => 0,
-        Verdict::Accepted(record) => record.total,
-    }
+    tc_strict::judge(data).map_or(0, |record| record.total)
 }

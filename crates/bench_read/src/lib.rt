@@ -3,37 +3,24 @@
 
 ghost use Rattle.std.specs.Prelude.{◌≡◌};
 ghost use Rattle.tc_read.specs.Read.{checked_read};
-ghost use Rattle.bench_read.specs.Numbers.{stored_in, sum_of, read_number};
+ghost use Rattle.bench_read.specs.Numbers.{sum_of, read_number};
 
-use ecss::Crc16;
-use tc_read::{PusTcRecord, PusTcRecordResult};
-
-fn stored(crc16: Crc16) -> u16
-    ensures { result ≡ stored_in crc16 }
-{
-    match crc16 {
-        Crc16::Some(n) => n,
-        Crc16::None => 0,
-    }
-}
+use tc_read::PusTcRecord;
 
 // The sum of what a record reports, so that each field is read.
+#[tactic(auto, unfolding(crate::specs::Numbers::sum_of))]
 fn sum(r: PusTcRecord) -> usize
     ensures { result ≡ sum_of r }
 {
-    let h = r.sp_header;
-    let x = r.sec_header;
-    let ack = x.ack_flags;
-    let crc16 = r.crc16;
-    h.version as usize
-        + h.packet_id_raw() as usize
-        + h.psc_raw() as usize
-        + h.data_len as usize
-        + x.service_type_id() as usize
-        + x.message_subtype_id() as usize
-        + ack.raw_value() as usize
-        + x.source_id as usize
-        + stored(crc16) as usize
+    r.sp_header.version as usize
+        + r.sp_header.packet_id_raw() as usize
+        + r.sp_header.psc_raw() as usize
+        + r.sp_header.data_len as usize
+        + r.sec_header.service_type_id() as usize
+        + r.sec_header.message_subtype_id() as usize
+        + r.sec_header.ack_flags.raw_value() as usize
+        + r.sec_header.source_id as usize
+        + r.crc16.unwrap_or(0) as usize
 }
 
 // The sum of what it reports, 0 where it is refused.
@@ -41,9 +28,5 @@ fn sum(r: PusTcRecord) -> usize
 pub extern "C" fn port_read(data: &[u8]) -> usize
     ensures { result ≡ read_number (checked_read «data».now) }
 {
-    let read = PusTcRecord::new(data);
-    match read {
-        PusTcRecordResult::Err(_) => 0,
-        PusTcRecordResult::Ok(record) => sum(record),
-    }
+    PusTcRecord::new(data).map_or(0, sum)
 }

@@ -5,7 +5,6 @@ ghost use Rattle.std.specs.Prelude.{◌≡◌};
 ghost use Rattle.tc_strict.specs.Split.{step_of};
 ghost use Rattle.bench_split.specs.Numbers.{step_number};
 
-use tc_strict::Verdict;
 use tc_strict::split::{Cursor, Step};
 
 // Where the next packet begins, 0 where this one is not accepted.
@@ -14,22 +13,12 @@ pub extern "C" fn port_step(capture: &[u8], at: usize) -> usize
     ensures { result ≡ step_number (step_of capture.now at) }
 {
     let here = Cursor { at };
-    let step = here.step(capture);
-    match step {
-        Step::End => 0,
-        Step::Tail {
-            at: _,
-            len: _,
-            next: _,
-        } => 0,
+    match here.step(capture) {
         Step::Packet {
-            at: _,
-            total: _,
-            verdict,
+            verdict: Ok(_),
             next,
-        } => match verdict {
-            Verdict::Refused(_) => 0,
-            Verdict::Accepted(_) => next.at,
-        },
+            ..
+        } => next.at,
+        _ => 0,
     }
 }

@@ -5,8 +5,6 @@ ghost use Rattle.std.specs.Prelude.{◌≡◌};
 ghost use Rattle.tm_strict.specs.Verdict.{strict_in};
 ghost use Rattle.bench_tm_judge.specs.Numbers.{total_number};
 
-use tm_strict::Verdict;
-
 // The octets of a time field.
 const TIME_LEN: u8 = 7;
 
@@ -15,9 +13,5 @@ const TIME_LEN: u8 = 7;
 pub extern "C" fn port_tm_judge(data: &[u8]) -> usize
     ensures { result ≡ total_number (strict_in 7 «data».now) }
 {
-    let verdict = tm_strict::judge(TIME_LEN, data);
-    match verdict {
-        Verdict::Refused(_) => 0,
-        Verdict::Accepted(record) => record.total,
-    }
+    tm_strict::judge(TIME_LEN, data).map_or(0, |record| record.total)
 }

@@ -1,12 +1,10 @@
 -- What the checked read of telemetry answers as one number.
-use Rattle.std.specs.Prelude.{ℕ, ◌+◌}
+use Rattle.std.specs.Prelude.{ℕ, ◌+◌, Option, Some, None}
 use Rattle.space_packet.specs.Answer.{Answer, gives, refuses}
 use Rattle.space_packet.specs.Fields.{id_raw, psc_raw}
-use Rattle.ecss.specs.declared.Crc16.{Crc16}
-use Rattle.ecss.specs.declared.Crc16.TheVariants.{Some, None}
 use Rattle.tm_read.specs.declared.PusTmRecord.{PusTmRecord}
 
-abbrev pub stored_in : Crc16 → ℕ
+abbrev pub stored_in : Option ℕ → ℕ
 stored_in (Some n) = n
 stored_in None = 0
 

@@ -1,3 +1,4 @@
+pub mod Loop
 mod Basis
 mod Rows
 mod Fold

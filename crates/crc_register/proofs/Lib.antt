@@ -2,7 +2,7 @@ pub mod Xor
 pub mod Below
 pub mod Linear
 pub mod Octet
-mod Entries
+pub mod Entries
 pub mod Zeros
 pub mod Residue
 pub mod Division

@@ -2,12 +2,11 @@
 use mathlib.Core.Path.{◌≡◌, refl, sym, ap, ap₂, ◌∙◌}
 use mathlib.Core.Bool.{Bool}
 use mathlib.Core.List.{List, [], ◌∷◌, ◌++◌}
-use Prim.Native.Nat.{ℕ, suc, ◌+◌, ◌*◌, ◌/◌, ◌%◌, ◌≤◌, ◌<◌}
+use Prim.Native.Nat.{ℕ, ◌*◌, ◌/◌, ◌%◌}
 use native.Mathlib.Nat.{suc_inj}
 use native.Mathlib.Omega.{arith}
-use lib.ListN.{length, drop, get_or, drop_of_length-le}
-use lib.Seq.{drop-cons}
-use native.Mathlib.Numerals.{add-one}
+use lib.ListN.{length}
+use Rattle.std.proofs.lemmas.Grind.{common_steps}
 use Rattle.crc_register.specs.Crc.{◌⊕◌, differs, bit, feedback, shift_in, run, octet_bits, bits_of, crc_from, crc_of}
 use Rattle.crc_register.specs.Added.{add_bits, add_octets}
 use Rattle.crc_register.proofs.Xor.{⊕-zero, ⊕-swap, ⊕-shl, ⊕-mod, bit-⊕, bit-shr, differs-swap, scaled-⊕}
@@ -98,23 +97,10 @@ crc_from-⊕ s t h a b = ap (run (a ⊕ b)) (bits_of-⊕ s t h) ∙ run-⊕ (bit
 pub crc_of-⊕ : (s e : List ℕ) → length s ≡ length e → crc_of (add_octets s e) ≡ crc_of s ⊕ crc_from 0 e
 crc_of-⊕ s e h = ap (λ (r : ℕ). crc_from r (add_octets s e)) (sym (⊕-zero 65535)) ∙ crc_from-⊕ s e h 65535 0
 
--- ---- a loop over the octets
+-- one octet more
+pub crc_from_push : (r : ℕ) (s : List ℕ) (o : ℕ) → crc_from r (s ++ o ∷ []) ≡ run (crc_from r s) (octet_bits o)
+crc_from_push r s o =
+    crc_from-++ r s (o ∷ []) ∙ crc_from-cons (crc_from r s) o [] ∙ crc_from-nil (run (crc_from r s) (octet_bits o))
 
--- the octets from i on still make t of the register r: what a loop keeps
-pub record StillMakes (s : List ℕ) (t i r : ℕ) : Type 0 where
-  pub kept : crc_from r (drop i s) ≡ t
-
--- one turn: the register takes in the octet at i
-pub turn : {s : List ℕ} {t i r q : ℕ} → StillMakes s t i r → i < length s → q ≡ run r (octet_bits (get_or s i 0)) → StillMakes s t (i + 1) q
-turn {s} {t} {i} {r} k h e =
-    record {
-      kept =
-          ap₂ (λ (x n : ℕ). crc_from x (drop n s)) e (add-one i)
-          ∙ sym (crc_from-cons r (get_or s i 0) (drop (suc i) s))
-          ∙ ap (crc_from r) (sym (drop-cons s i 0 h))
-          ∙ k.kept;
-    }
-
--- the end: no octet is left
-pub end : {s : List ℕ} {t i r : ℕ} → StillMakes s t i r → length s ≤ i → r ≡ t
-end {s} {r = r} k h = sym (crc_from-nil r) ∙ ap (crc_from r) (sym (drop_of_length-le s h)) ∙ k.kept
+-- what a loop over the octets needs: it begins with none of them, and takes in one more at each turn
+pub ruleset by_octets = (common_steps, crc_from-nil, crc_from_push)

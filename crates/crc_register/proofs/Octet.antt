@@ -165,8 +165,8 @@ two-halves o =
     let g : o % 2 ≡ o % 16 % 2 = omega arith in
     rw (a, b, c, d, e, f, g)
 
-pub by-halves : (r o : ℕ) → run (run r (half_bits (o / 16))) (half_bits (o % 16)) ≡ run r (octet_bits o)
-by-halves r o = sym (ap (run r) (two-halves o) ∙ run-++ r (half_bits (o / 16)) (half_bits (o % 16)))
+pub octet_halves : (r o : ℕ) → run r (octet_bits o) ≡ run (run r (half_bits (o / 16))) (half_bits (o % 16))
+octet_halves r o = ap (run r) (two-halves o) ∙ run-++ r (half_bits (o / 16)) (half_bits (o % 16))
 
 -- ---- the step undone
 

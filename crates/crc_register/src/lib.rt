@@ -6,19 +6,19 @@ ghost use Rattle.crc_register.specs.Crc.{run, octet_bits, crc_from};
 ghost use Rattle.crc_register.specs.Table.{half_bits, entry};
 
 // The register after the octets, by the table.
+#[tactic(auto, using(crate::proofs::Linear::by_octets))]
 pub fn table_from(register: u16, data: &[u8]) -> u16
     ensures { result ≡ crc_from register «data».now }
 {
     let mut r = register;
-    let mut i = 0;
-    while i < data.len() {
-        r = table_octet(r, data[i]);
-        i += 1;
+    for octet in data {
+        r = table_octet(r, *octet);
     }
     r
 }
 
 // The register after one octet: the table is used for its high half, and then for its low half.
+#[tactic(auto, using(crate::proofs::Octet::octet_halves))]
 fn table_octet(r: u16, b: u8) -> u16
     ensures { result ≡ run r (octet_bits b) }
 {
@@ -30,11 +30,12 @@ fn table_half(r: u16, h: u8) -> u16
     requires { h < 16 }
     ensures { result ≡ run r (half_bits h) }
 {
-    (r << 4) ^ table_entry((r >> 12) ^ (h as u16))
+    (r << 4) ^ table_entry((r >> 12) ^ u16::from(h))
 }
 
-// The table: entry k is what four zero bits make of a register whose highest four bits are k and whose others are 0. An index
-// into a constant would copy the table to the stack for each half; of these arms the compiler makes one multiplication.
+// The table: entry k is what four zero bits make of a register whose highest four bits are k and whose others are 0. Of these
+// arms the compiler makes one multiplication; an array was tried, and takes 32 read-only octets, where a boot image wants none.
+#[tactic(auto, using(crate::proofs::Entries::entry_product))]
 fn table_entry(k: u16) -> u16
     requires { k < 16 }
     ensures { result ≡ entry k }
@@ -63,7 +64,7 @@ fn table_entry(k: u16) -> u16
 pub fn no_table_octet(r: u16, b: u8) -> u16
     ensures { result ≡ run r (octet_bits b) }
 {
-    let x = (r >> 8) ^ (b as u16);
+    let x = (r >> 8) ^ u16::from(b);
     let y = x ^ (x >> 4);
     (r << 8) ^ ((y << 12) ^ (y << 5) ^ y)
 }

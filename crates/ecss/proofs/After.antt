@@ -7,7 +7,7 @@ use native.Mathlib.Omega.{arith}
 use lib.ListN.{length, get_or, drop, length-drop}
 use lib.Seq.{get_or-take, get_or-drop, length-take-le}
 use borrow.Author.Tests.{le-ltb}
-use Rattle.space_packet.specs.Answer.{Answer, Numbers, Passed, gives, refuses, ◌then◌}
+use Rattle.space_packet.specs.Answer.{Answer, Numbers, Passed, gives, refuses, ◌then◌, and_then}
 use Rattle.space_packet.specs.Header.{header_read, read_header}
 use Rattle.space_packet.proofs.Answers.{gives-inj, refuses-inj, refuse-no, then-gives, gives_then}
 use Rattle.ecss.specs.Frame.{stated_of, checked_of, frame_after, checked_after, Framed}
@@ -71,7 +71,7 @@ module _ {H R : Type 0} (first : Passed) (k : Kind H) (s : List ℕ) (g : ℕ �
   verdict_after = first then λ _. judge k s then λ _. gives (g (stated_of s))
 
   by_first : (a : Passed) (e : Numbers) → first ≡ a → (a then λ _. checked_of (start_of k) s) ≡ refuses e → verdict_after ≡ refuses e
-  unfolding judge ◌then◌
+  unfolding judge and_then
   by_first (refuses d) e i p = rw i (ap refuses (refuses-inj d e p))
   by_first (gives u) e i p = rw (i, p) refl
 
@@ -83,7 +83,7 @@ module _ {H R : Type 0} (first : Passed) (k : Kind H) (s : List ℕ) (g : ℕ �
   -- where it takes n octets, the verdict is the strict checks'; by their answer, not by how the definition goes through them
   taken-ruled : (n : ℕ) (a : Passed) → first ≡ gives tt → checked_of (start_of k) s ≡ gives n → strict_rule k (read_header s) (secondary_of k.size s) ≡ a
       → verdict_after ≡ (a then λ _. gives (g (stated_of s)))
-  unfolding judge ◌then◌
+  unfolding judge and_then
   taken-ruled n (gives u) i p q = rw (i, p, q) refl
   taken-ruled n (refuses e) i p q = rw (i, p, q) refl
 

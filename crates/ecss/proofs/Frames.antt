@@ -7,7 +7,7 @@ use native.Mathlib.Omega.{arith}
 use lib.ListN.{length, take, drop, drop_of_length-le}
 use lib.Seq.{length-take-le}
 use borrow.Author.Tests.{ltb-false, le-ltb, eq-eqb, eqb-true, not-false}
-use Rattle.space_packet.specs.Answer.{Numbers, refusal, gives, refuse_if, ◌then◌}
+use Rattle.space_packet.specs.Answer.{Numbers, refusal, gives, refuse_if, and_then}
 use Rattle.space_packet.proofs.Answers.{gives-inj, refuse-no, refuse-gives, then-gives, gives_then, then-of, if-then, Holds, holds-if}
 use Rattle.crc_register.specs.Crc.{crc_of}
 use Rattle.ecss.specs.Frame.{trailer, stated_of, stored_of, computed_of, checksum_fits, frame_of, verifies, verified, checked_of}
@@ -75,7 +75,7 @@ checked-total start s n p =
 -- which has two octets or more, so that after the length checks only 4 is left to refuse with
 pub checked-frame : (start : ℕ) (s : List ℕ) (n : ℕ) → FrameIs start s true n
     → checked_of start s ≡ refuse_if (not (verifies (take n s))) (refusal 4 (stored_of s n ∷ computed_of s n ∷ [])) (gives n)
-unfolding checked_of ◌then◌
+unfolding checked_of and_then
 checked-frame start s n f =
     gives_then _ _ n (total-frame start s true n f)
     ∙ then-of _ _ (λ _. gives n) (refuse-no _ _ _ (le-ltb (length (take n s)) 2 (frame-two start s n f)))

@@ -3,7 +3,6 @@ pub mod Frames
 pub mod Sealed
 pub mod Octets
 pub mod Rules
-pub mod Determined
 pub mod Pieces
 pub mod Checksums
 pub mod After

@@ -1,13 +1,12 @@
 -- Octets compared: they are the same exactly where the lists are equal.
-use Prim.Native.Nat.{ℕ, suc, ◌≤◌, ◌<◌}
+use lib.Pointwise.{pointwise}
+use Prim.Native.Nat.{ℕ}
 use mathlib.Core.Path.{◌≡◌, refl, sym, ap, ap₂, ◌∙◌}
 use mathlib.Core.Logic.{◌↔◌}
 use mathlib.Core.Bool.{Bool, true, false, false≢true, ◌&&◌, and-eq-true_iff}
 use mathlib.Core.List.{List, [], ◌∷◌}
-use lib.ListN.{length, get_or, drop, drop_of_length-le}
-use lib.Seq.{drop-cons}
 use lib.Dec.{eqb}
-use borrow.Author.Tests.{eq-eqb, ne_eqb, eqb-true}
+use borrow.Author.Tests.{eq-eqb, eqb-true}
 use Rattle.space_packet.specs.Answer.{Answer, gives, refuses}
 use Rattle.ecss.specs.Frame.{same_octets, was_read, same_reading}
 
@@ -29,24 +28,6 @@ same-octets s t = (same-equal s t, λ e. ap (same_octets s) (sym e) ∙ same_ref
 not_same : (b : Bool) → (b ≡ true → ⊥) → b ≡ false
 not_same true h = absurd (h refl)
 not_same false h = refl
-
-pub length-differs : (s t : List ℕ) → (length s ≡ length t → ⊥) → same_octets s t ≡ false
-length-differs s t h = not_same (same_octets s t) (λ p. h (ap length (same-equal s t p)))
-
--- a turn of the comparison
-same_turn : (s t : List ℕ) (i : ℕ) → i < length s → i < length t → same_octets (drop i s) (drop i t) ≡ eqb (get_or s i 0) (get_or t i 0) && same_octets (drop (suc i) s) (drop (suc i) t)
-unfolding same_octets
-same_turn s t i h k = ap₂ same_octets (drop-cons s i 0 h) (drop-cons t i 0 k)
-
-pub same_step : (s t : List ℕ) (i : ℕ) → i < length s → i < length t → get_or s i 0 ≡ get_or t i 0 → same_octets (drop i s) (drop i t) ≡ same_octets (drop (suc i) s) (drop (suc i) t)
-same_step s t i h k e = same_turn s t i h k ∙ ap (λ (b : Bool). b && same_octets (drop (suc i) s) (drop (suc i) t)) (eq-eqb _ _ e)
-
-pub same_stop : (s t : List ℕ) (i : ℕ) → i < length s → i < length t → (get_or s i 0 ≡ get_or t i 0 → ⊥) → same_octets (drop i s) (drop i t) ≡ false
-same_stop s t i h k e = same_turn s t i h k ∙ ap (λ (b : Bool). b && same_octets (drop (suc i) s) (drop (suc i) t)) (ne_eqb _ _ e)
-
-pub same_end : (s t : List ℕ) (i : ℕ) → length s ≤ i → length t ≤ i → same_octets (drop i s) (drop i t) ≡ true
-unfolding same_octets
-same_end s t i h k = ap₂ same_octets (drop_of_length-le s h) (drop_of_length-le t k)
 
 -- ---- packets that were read, compared
 
@@ -71,3 +52,11 @@ same_read a c s t = (
       ap₂ (λ (x y : Bool). x && (y && same_octets s t)) ((is_read a).1 k.one) ((is_read c).1 k.other)
       ∙ (same-octets s t).1 k.octets-equal,
 )
+
+-- octets that `==` compares are compared in pairs
+pub pairwise-same : (s t : List ℕ) → pointwise eqb s t ≡ same_octets s t
+unfolding same_octets
+pairwise-same [] [] = refl
+pairwise-same [] (y ∷ t) = refl
+pairwise-same (x ∷ s) [] = refl
+pairwise-same (x ∷ s) (y ∷ t) = ap (λ r. eqb x y && r) (pairwise-same s t)

@@ -7,13 +7,12 @@ use mathlib.Core.List.{List, ◌++◌}
 use native.Mathlib.Omega.{arith}
 use lib.ListN.{length, get_or, take, drop}
 use lib.Seq.{take_at}
+use Rattle.std.specs.Prelude.{Option, Some, None}
 use Rattle.space_packet.specs.Answer.{Answer, Passed, gives}
 use Rattle.space_packet.proofs.Answers.{gives_then, then-gives}
 use Rattle.crc_register.specs.Crc.{crc_of}
 use Rattle.ecss.specs.Frame.{Octets, trailer, closed, frame_after, checked_after, crc_taken, raw_part, data_part}
 use Rattle.ecss.specs.Kind.{Kind, KindLaws, Packet, Stated, start_of, content_of, packet_of, secondary_of, read_as}
-use Rattle.ecss.specs.declared.Crc16.{Crc16}
-use Rattle.ecss.specs.declared.Crc16.TheVariants.{Some, None}
 use Rattle.ecss.proofs.After.{secondary-length, octet-six}
 use Rattle.ecss.proofs.Frames.{total-frame, checked-total, total-checked}
 use Rattle.ecss.proofs.Pieces.{frame_is, data_is, stored_is, content-length, closed-length, octets-drop, octets-take, packet-back}
@@ -22,7 +21,7 @@ use Rattle.ecss.proofs.Sealed.{sealed-verifies}
 -- ---- written, then read
 
 -- the checksum of a packet, where it has one
-abbrev pub checksum_of : Bool → List ℕ → Crc16
+abbrev pub checksum_of : Bool → List ℕ → Option ℕ
 checksum_of true l = Some (crc_of l)
 checksum_of false l = None
 

@@ -1,10 +1,8 @@
 -- The frame of a packet, over `start`, the octet at which its data starts: 11 for a PUS-C telecommand.
-use Rattle.std.specs.Prelude.{ℕ, ◌+◌, ◌-◌, ◌≤◌, ◌<◌, ◌≡◌, Bool, true, false, not, ◌&&◌, List, [], ◌∷◌, ◌++◌, length, get_or, take, drop, ltb, eqb}
+use Rattle.std.specs.Prelude.{ℕ, ◌+◌, ◌-◌, ◌≤◌, ◌<◌, ◌≡◌, Bool, true, false, not, ◌&&◌, List, [], ◌∷◌, ◌++◌, length, get_or, take, drop, ltb, eqb, Option, Some, None}
 use Rattle.space_packet.specs.Bits.{be16, word}
 use Rattle.space_packet.specs.Answer.{Numbers, Answer, Passed, refusal, gives, refuses, refuse_if, ◌then◌}
 use Rattle.crc_register.specs.Crc.{crc_of}
-use Rattle.ecss.specs.declared.Crc16.{Crc16}
-use Rattle.ecss.specs.declared.Crc16.TheVariants.{Some, None}
 
 -- numbers that are octets
 abbrev pub Octets : List ℕ → Type 0
@@ -97,11 +95,11 @@ pub record Framed (first : Passed) (start : ℕ) (b : Bool) (s : List ℕ) (n : 
   pub fits : n ≤ length s
 
 -- the checksum of a packet of n octets, where it is taken
-abbrev pub crc_taken : Bool → List ℕ → ℕ → Crc16
+abbrev pub crc_taken : Bool → List ℕ → ℕ → Option ℕ
 crc_taken true s n = Some (stored_of s n)
 crc_taken false s n = None
 
-abbrev pub has_crc : Crc16 → Bool
+abbrev pub has_crc : Option ℕ → Bool
 has_crc (Some n) = true
 has_crc None = false
 

@@ -1,13 +1,11 @@
 -- The PUS version number, and the records that every PUS packet has.
 use Rattle.std.specs.Prelude.{ℕ, true, not, eqb, List, [], ◌∷◌, get_or}
 use Rattle.space_packet.specs.Bits.{pick}
-use Rattle.space_packet.specs.Answer.{Answer, Passed, gives, refuses, refusal, refuse_if, numbers_of}
+use Rattle.space_packet.specs.Answer.{Answer, Passed, gives, refuses, refusal, refuse_if}
 use Rattle.ecss.specs.declared.PusVersion.{PusVersion}
 use Rattle.ecss.specs.declared.PusVersion.TheVariants.{EsaPus, PusA, PusC}
-use Rattle.ecss.specs.declared.PusVersionResult.{PusVersionResult}
 use Rattle.ecss.specs.declared.MessageTypeId.{MessageTypeId}
 use Rattle.ecss.specs.declared.CreatorConfig.{CreatorConfig}
-use Rattle.ecss.specs.declared.PusVersionResult.TheVariants as R
 
 -- ECSS-E-ST-70-41C, 7.4.3 and 7.4.4, TM and TC packet PUS version number: this standard's version number is 2; ECSS-E-70-41A's is 1, and
 -- the ESA standard's before it 0
@@ -15,10 +13,6 @@ abbrev pub version_number : PusVersion → ℕ
 version_number EsaPus = 0
 version_number PusA = 1
 version_number PusC = 2
-
-abbrev pub version_answer : PusVersionResult → Answer PusVersion
-version_answer (R.Ok v) = gives v
-version_answer (R.Err e) = refuses (numbers_of e)
 
 -- the version of a nibble
 unfoldable pub version_of : ℕ → Answer PusVersion

@@ -1,43 +1,39 @@
 // The frame of a packet, over the octet at which its data starts: its length checks, its checksum, and the parts handed out.
+ghost use Rattle.space_packet.specs.Answer.{answer_of};
 ghost use Rattle.std.specs.Prelude.{◌≡◌, take, drop};
-ghost use Rattle.space_packet.specs.Answer.{check_answer, size_answer};
 ghost use Rattle.space_packet.specs.Part.{beyond, reached};
 ghost use Rattle.ecss.specs.Frame.{trailer, frame_of, checked_of, frame_after, checked_after, crc_taken, raw_part, data_part, data_at, same_octets};
 ghost use Rattle.ecss.specs.Kind.{secondary_of, secondary_at};
 
-use crate::Crc16;
-use space_packet::{ByteConversionError, CCSDS_HEADER_LEN, CheckResult, PusError, SizeResult};
+use space_packet::{ByteConversionError, CCSDS_HEADER_LEN, PusError};
 
-fn too_small(found: usize, expected: usize) -> SizeResult
-    ensures { result ≡ SizeResult.Err (PusError.ByteConversion (ByteConversionError.FromSliceTooSmall found expected)) }
+fn too_small(found: usize, expected: usize) -> PusError
+    ensures { result ≡ PusError.ByteConversion (ByteConversionError.FromSliceTooSmall found expected) }
 {
-    SizeResult::Err(PusError::ByteConversion(ByteConversionError::FromSliceTooSmall {
-        found,
-        expected,
-    }))
+    PusError::ByteConversion(ByteConversionError::FromSliceTooSmall { found, expected })
 }
 
 // The reader's length checks in their order; the answer is the stated total.
-pub fn frame_of(s: &[u8], start: usize, has_checksum: bool) -> SizeResult
-    ensures { size_answer result ≡ frame_of start s.now has_checksum }
+pub fn frame_of(s: &[u8], start: usize, has_checksum: bool) -> Result<usize, PusError>
+    ensures { answer_of result ≡ frame_of start s.now has_checksum }
 {
     let n = s.len();
     if n < start {
-        return too_small(n, start);
+        return Err(too_small(n, start));
     }
     let total = space_packet::word_at(s, 4) as usize + 7;
     if n < total {
-        return too_small(n, total);
+        return Err(too_small(n, total));
     }
     if total < start {
-        return too_small(total, start);
+        return Err(too_small(total, start));
     }
     if has_checksum {
         if total < start + 2 {
-            return too_small(total - 2, start);
+            return Err(too_small(total - 2, start));
         }
     }
-    SizeResult::Ok(total)
+    Ok(total)
 }
 
 // The first n octets, or all where there are fewer.
@@ -71,65 +67,60 @@ pub fn sec_header_part(packet: &[u8], size: usize) -> &[u8]
 }
 
 // All reader checks with checksum.
-pub fn checked(s: &[u8], start: usize) -> SizeResult
-    ensures { size_answer result ≡ checked_of start s.now }
+#[tactic(auto, unfolding(space_packet::specs::Answer::and_then, crate::specs::Frame::checked_of))]
+pub fn checked(s: &[u8], start: usize) -> Result<usize, PusError>
+    ensures { answer_of result ≡ checked_of start s.now }
 {
-    let f = frame_of(s, start, true);
-    match f {
-        SizeResult::Err(e) => SizeResult::Err(e),
-        SizeResult::Ok(total) => {
-            let stored = space_packet::word_at(s, total - 2);
-            let v = crate::verify_crc16_ccitt_false_from_raw_to_pus_error(front(s, total), stored);
-            match v {
-                CheckResult::Err(e) => SizeResult::Err(e),
-                CheckResult::Ok => SizeResult::Ok(total),
-            }
-        }
-    }
+    let total = frame_of(s, start, true)?;
+    let stored = space_packet::word_at(s, total - 2);
+    crate::verify_crc16_ccitt_false_from_raw_to_pus_error(front(s, total), stored)?;
+    Ok(total)
 }
 
 // The reader's length checks behind a check that comes before all others.
-pub fn frame_after(first: CheckResult, s: &[u8], start: usize, has_checksum: bool) -> SizeResult
-    ensures { size_answer result ≡ frame_after (check_answer first) start s.now has_checksum }
+#[tactic(auto, unfolding(space_packet::specs::Answer::and_then, crate::specs::Frame::frame_after))]
+pub fn frame_after(
+    first: Result<(), PusError>,
+    s: &[u8],
+    start: usize,
+    has_checksum: bool,
+) -> Result<usize, PusError>
+    ensures { answer_of result ≡ frame_after (answer_of first) start s.now has_checksum }
 {
-    match first {
-        CheckResult::Err(e) => SizeResult::Err(e),
-        CheckResult::Ok => frame_of(s, start, has_checksum),
-    }
+    first?;
+    frame_of(s, start, has_checksum)
 }
 
 // All reader checks with checksum behind it.
-pub fn checked_after(first: CheckResult, s: &[u8], start: usize) -> SizeResult
-    ensures { size_answer result ≡ checked_after (check_answer first) start s.now }
+#[tactic(auto, unfolding(space_packet::specs::Answer::and_then, crate::specs::Frame::checked_after))]
+pub fn checked_after(first: Result<(), PusError>, s: &[u8], start: usize) -> Result<usize, PusError>
+    ensures { answer_of result ≡ checked_after (answer_of first) start s.now }
 {
-    match first {
-        CheckResult::Err(e) => SizeResult::Err(e),
-        CheckResult::Ok => checked(s, start),
-    }
+    first?;
+    checked(s, start)
 }
 
 // The checksum that a packet of `total` octets stores, where it is taken.
-pub fn crc_taken(s: &[u8], total: usize, has_checksum: bool) -> Crc16
+pub fn crc_taken(s: &[u8], total: usize, has_checksum: bool) -> Option<u16>
     ensures { result ≡ crc_taken has_checksum s.now total }
 {
     if !has_checksum {
-        return Crc16::None;
+        return None;
     }
     if total < 2 {
-        return Crc16::Some(space_packet::word_at(s, 0));
+        return Some(space_packet::word_at(s, 0));
     }
-    Crc16::Some(space_packet::word_at(s, total - 2))
+    Some(space_packet::word_at(s, total - 2))
 }
 
 // The packet, as a part of the octets; the empty part where it is refused.
-pub fn raw_part(first: CheckResult, s: &[u8], start: usize, has_checksum: bool) -> &[u8]
-    ensures result_value { result.now ≡ raw_part (frame_after (check_answer first) start s.now has_checksum) s.now }
+pub fn raw_part(first: Result<(), PusError>, s: &[u8], start: usize, has_checksum: bool) -> &[u8]
+    ensures result_value { result.now ≡ raw_part (frame_after (answer_of first) start s.now has_checksum) s.now }
     ensures ref_ptr_value { result.ref_ptr ≡ s.entry.ref_ptr }
 {
-    let f = frame_after(first, s, start, has_checksum);
-    match f {
-        SizeResult::Err(_) => &s[..0],
-        SizeResult::Ok(total) => front(s, total),
+    match frame_after(first, s, start, has_checksum) {
+        Err(_) => &s[..0],
+        Ok(total) => front(s, total),
     }
 }
 
@@ -141,14 +132,13 @@ pub fn trailer_len(has_checksum: bool) -> usize
 }
 
 // The packet's data, up to the checksum; the empty part where it is refused.
-pub fn data_part(first: CheckResult, s: &[u8], start: usize, has_checksum: bool) -> &[u8]
-    ensures result_value { result.now ≡ data_part start has_checksum (frame_after (check_answer first) start s.now has_checksum) s.now }
-    ensures ref_ptr_value { result.ref_ptr ≡ beyond (data_at start (frame_after (check_answer first) start s.now has_checksum)) s.entry.ref_ptr }
+pub fn data_part(first: Result<(), PusError>, s: &[u8], start: usize, has_checksum: bool) -> &[u8]
+    ensures result_value { result.now ≡ data_part start has_checksum (frame_after (answer_of first) start s.now has_checksum) s.now }
+    ensures ref_ptr_value { result.ref_ptr ≡ beyond (data_at start (frame_after (answer_of first) start s.now has_checksum)) s.entry.ref_ptr }
 {
-    let f = frame_after(first, s, start, has_checksum);
-    match f {
-        SizeResult::Err(_) => &s[..0],
-        SizeResult::Ok(total) => {
+    match frame_after(first, s, start, has_checksum) {
+        Err(_) => &s[..0],
+        Ok(total) => {
             let end = total - trailer_len(has_checksum);
             &s[start..end]
         }
@@ -159,15 +149,5 @@ pub fn data_part(first: CheckResult, s: &[u8], start: usize, has_checksum: bool)
 pub fn same_octets(a: &[u8], b: &[u8]) -> bool
     ensures { result ≡ same_octets a.now b.now }
 {
-    if a.len() != b.len() {
-        return false;
-    }
-    let mut i: usize = 0;
-    while i < a.len() {
-        if a[i] != b[i] {
-            return false;
-        }
-        i += 1;
-    }
-    true
+    a == b
 }

@@ -1,31 +1,45 @@
 // What every PUS packet shares, after ECSS-E-ST-70-41C: its version, its message type, the verifying of its checksum, and
 // its frame.
-#![tactic(auto)]
+#![tactic(auto, unfolding(space_packet::specs::Answer::and_then, space_packet::specs::Answer::set_if, space_packet::specs::Answer::refuse_if))]
 
 ghost use Rattle.std.specs.Prelude.{◌≡◌, ℕ, ◌<◌};
 ghost use Rattle.crc_register.specs.Crc.{run, octet_bits};
-ghost use Rattle.space_packet.specs.Answer.{check_answer, numbers_of};
-ghost use Rattle.ecss.specs.Version.{version_number, version_answer, version_of, version_is, message_type_of, default_config};
+ghost use Rattle.space_packet.specs.Answer.{numbers_of, answer_of};
+ghost use Rattle.ecss.specs.Version.{version_number, version_of, version_is, message_type_of, default_config};
 ghost use Rattle.ecss.specs.Frame.{verifies, verified};
 ghost use Rattle.ecss.specs.Kind.{pus_rule};
 
 pub use space_packet::{ByteConversionError, PusError};
-use space_packet::{CheckResult, PacketType, SpHeader};
+use space_packet::{PacketType, SpHeader};
 
 pub mod frame;
+mod packet;
+
+pub use packet::PusPacket;
 
 // All PUS versions; PUS A and PUS C are written.
-#[derive(Clone, Copy)]
+#[derive(Clone, Copy, PartialEq, Eq)]
 pub enum PusVersion {
     EsaPus,
     PusA,
     PusC,
 }
 
-#[derive(Clone, Copy)]
-pub enum PusVersionResult {
-    Ok(PusVersion),
-    Err(PusError),
+impl TryFrom<u8> for PusVersion {
+    type Error = PusError;
+
+    ghost try_from_gives = { λ value r. answer_of r ≡ version_of value };
+
+    // The version of a nibble; 3 for a nibble that names none.
+    #[tactic(auto, unfolding(crate::specs::Version::version_of))]
+    fn try_from(value: u8) -> Result<PusVersion, PusError> {
+        match value {
+            0 => Ok(PusVersion::EsaPus),
+            1 => Ok(PusVersion::PusA),
+            2 => Ok(PusVersion::PusC),
+            _ => Err(PusError::VersionNotSupported(value)),
+        }
+    }
 }
 
 impl PusVersion {
@@ -39,31 +53,18 @@ impl PusVersion {
         }
     }
 
-    // The version of a nibble; 3 for a nibble that names none.
-    pub fn try_from(value: u8) -> PusVersionResult
-        ensures { version_answer result ≡ version_of value }
-    {
-        match value {
-            0 => PusVersionResult::Ok(PusVersion::EsaPus),
-            1 => PusVersionResult::Ok(PusVersion::PusA),
-            2 => PusVersionResult::Ok(PusVersion::PusC),
-            _ => PusVersionResult::Err(PusError::VersionNotSupported(value)),
-        }
-    }
-
     // What a write asks: 3 for another version than its own.
-    pub fn check(self, own: PusVersion) -> CheckResult
-        ensures { check_answer result ≡ version_is own self }
+    pub fn check(self, own: PusVersion) -> Result<(), PusError>
+        ensures { answer_of result ≡ version_is own self }
     {
-        let number = self.raw_value();
-        if number != own.raw_value() {
-            return CheckResult::Err(PusError::VersionNotSupported(number));
+        if self != own {
+            return Err(PusError::VersionNotSupported(self.raw_value()));
         }
-        CheckResult::Ok
+        Ok(())
     }
 }
 
-#[derive(Clone, Copy)]
+#[derive(Clone, Copy, PartialEq, Eq)]
 pub struct MessageTypeId {
     // The service type.
     pub type_id: u8,
@@ -82,7 +83,7 @@ impl MessageTypeId {
     }
 }
 
-#[derive(Clone, Copy)]
+#[derive(Clone, Copy, PartialEq, Eq)]
 pub struct CreatorConfig {
     // Whether construction sets the length field.
     pub set_ccsds_len: bool,
@@ -90,10 +91,10 @@ pub struct CreatorConfig {
     pub has_checksum: bool,
 }
 
-impl CreatorConfig {
-    pub fn default() -> CreatorConfig
-        ensures { result ≡ default_config }
-    {
+impl Default for CreatorConfig {
+    ghost is_default = { λ c. c ≡ default_config };
+
+    fn default() -> CreatorConfig {
         CreatorConfig {
             set_ccsds_len: true,
             has_checksum: true,
@@ -101,32 +102,28 @@ impl CreatorConfig {
     }
 }
 
-// The Rust's Option<u16>: the checksum, where there is one.
-#[derive(Clone, Copy)]
-pub enum Crc16 {
-    Some(u16),
-    None,
-}
-
 // 2 for fewer octets than a checksum has. 4, with the number handed in and the checksum of all but the last two octets, where the
 // octets do not verify. Both names run with no table, the faster at every length of a packet, and once over the octets: where the
 // checksum over all of them is not 0, the one before the last two is found by going back over these.
-pub fn verify_crc16_ccitt_false_from_raw_to_pus_error(raw_data: &[u8], crc16: u16) -> CheckResult
-    ensures { check_answer result ≡ verified raw_data.now crc16 }
+pub fn verify_crc16_ccitt_false_from_raw_to_pus_error(
+    raw_data: &[u8],
+    crc16: u16,
+) -> Result<(), PusError>
+    ensures { answer_of result ≡ verified raw_data.now crc16 }
 {
     let n = raw_data.len();
     if n < 2 {
-        return CheckResult::Err(PusError::ByteConversion(ByteConversionError::FromSliceTooSmall {
+        return Err(PusError::ByteConversion(ByteConversionError::FromSliceTooSmall {
             found: n,
             expected: 2,
         }));
     }
     let all = crc::crc_ccitt_false_no_table(raw_data);
     if all == 0 {
-        return CheckResult::Ok;
+        return Ok(());
     }
     let computed = octet_back(octet_back(all, raw_data[n - 1]), raw_data[n - 2]);
-    CheckResult::Err(PusError::ChecksumFailure {
+    Err(PusError::ChecksumFailure {
         stored: crc16,
         computed,
     })
@@ -147,8 +144,8 @@ fn octet_back(r: u16, b: u8) -> u16
 pub fn verify_crc16_ccitt_false_from_raw_to_pus_error_no_table(
     raw_data: &[u8],
     crc16: u16,
-) -> CheckResult
-    ensures { check_answer result ≡ verified raw_data.now crc16 }
+) -> Result<(), PusError>
+    ensures { answer_of result ≡ verified raw_data.now crc16 }
 {
     verify_crc16_ccitt_false_from_raw_to_pus_error(raw_data, crc16)
 }
@@ -173,27 +170,24 @@ pub fn pus_rule(
     version: u8,
     h: SpHeader,
     octet: u8,
-) -> CheckResult
-    ensures { check_answer result ≡ pus_rule packet_type (numbers_of other) version h octet }
+) -> Result<(), PusError>
+    ensures { answer_of result ≡ pus_rule packet_type (numbers_of other) version h octet }
 {
-    let number = h.version;
-    if number != 0 {
-        return CheckResult::Err(PusError::PacketVersion(number));
+    if h.version != 0 {
+        return Err(PusError::PacketVersion(h.version));
     }
-    let found = h.packet_type();
-    if found.raw_value() != packet_type.raw_value() {
-        return CheckResult::Err(other);
+    if h.packet_type() != packet_type {
+        return Err(other);
     }
     if !h.sec_header_flag() {
-        return CheckResult::Err(PusError::NoSecondaryHeader);
+        return Err(PusError::NoSecondaryHeader);
     }
     let nibble = octet / 16;
     if nibble != version {
-        return CheckResult::Err(PusError::VersionNotSupported(nibble));
+        return Err(PusError::VersionNotSupported(nibble));
     }
-    let apid = h.apid();
-    if apid.is_idle() {
-        return CheckResult::Err(PusError::IdleApid);
+    if h.apid().is_idle() {
+        return Err(PusError::IdleApid);
     }
-    CheckResult::Ok
+    Ok(())
 }

@@ -6,15 +6,15 @@ use mathlib.Core.List.{List, [], ◌++◌, append_assoc, append-nil}
 use native.Mathlib.Omega.{arith}
 use lib.ListN.{length, take}
 use lib.Seq.{length-take-le, take_at}
-use Rattle.space_packet.specs.Answer.{Answer, Passed, Kept, gives, refuses, ◌then◌, set_if, check_answer}
+use Rattle.std.specs.Prelude.{Some, None, Result}
+use Rattle.space_packet.specs.Answer.{answer_of, Answer, Passed, Kept, gives, refuses, ◌then◌, set_if, and_then}
+use Rattle.space_packet.specs.declared.PusError.{PusError}
 use Rattle.space_packet.specs.Header.{header_octets, header_check, left_by}
 use Rattle.space_packet.specs.Wrote.{Wrote}
 use Rattle.space_packet.specs.declared.SpacePacketHeader.{SpacePacketHeader}
-use Rattle.space_packet.specs.declared.SizeResult.{SizeResult}
 use Rattle.space_packet.proofs.Answers.{then-gives, then-of, set-in, left-written}
 use Rattle.ecss.specs.Frame.{trailer, closed}
 use Rattle.ecss.specs.Kind.{content_of}
-use Rattle.ecss.specs.declared.Crc16.TheVariants.{Some, None}
 use Rattle.ecss_write.specs.Write.{total_for, Asked, asks_answer, asked, asked_by, write_with, bare_with, put_with, put_octets, reserve_with, own_with, checksum_with, field_with, made_with, afresh_with, with_length, kept_with, headed_at}
 use Rattle.ecss_write.specs.declared.packet.Asks.{Asks}
 use Rattle.ecss_write.proofs.Written.{write-by-room, reserve-by-room, writes, reserves}
@@ -46,19 +46,19 @@ module _ {H : Type 0} (w : Writer H) (x : H) (z s l : List ℕ) (n : ℕ) (o : A
 
 write-start : (first : Passed) (rest : Unit {0} → Passed) (v : Passed) (i j : ℕ) (b : Bool) (n m : ℕ) → (first ≡ gives tt → i ≡ j)
     → write_with (first then rest) v i b n m ≡ write_with (first then rest) v j b n m
-unfolding ◌then◌
+unfolding and_then
 write-start (refuses e) rest v i j b n m p = write-by-room (refuses e) v i b n m ∙ sym (write-by-room (refuses e) v j b n m)
 write-start (gives u) rest v i j b n m p = ap (λ (k : ℕ). write_with (rest u) v k b n m) (p refl)
 
 reserve-start : (first : Passed) (rest : Unit {0} → Passed) (v : Passed) (i j : ℕ) (b : Bool) (n m : ℕ) → (first ≡ gives tt → i ≡ j)
     → reserve_with (first then rest) v i b n m ≡ reserve_with (first then rest) v j b n m
-unfolding ◌then◌
+unfolding and_then
 reserve-start (refuses e) rest v i j b n m p = reserve-by-room (refuses e) v i b n m ∙ sym (reserve-by-room (refuses e) v j b n m)
 reserve-start (gives u) rest v i j b n m p = ap (λ (k : ℕ). reserve_with (rest u) v k b n m) (p refl)
 
 pub field-start : (first : Passed) (rest : Unit {0} → Passed) (i j : ℕ) (b : Bool) (n : ℕ) (set : Bool) (old : ℕ) → (first ≡ gives tt → i ≡ j)
     → field_with (first then rest) i b n set old ≡ field_with (first then rest) j b n set old
-unfolding field_with ◌then◌
+unfolding field_with and_then
 field-start (refuses e) rest i j b n set old p = refl
 field-start (gives u) rest i j b n set old p = ap (λ (k : ℕ). field_with (rest u) k b n set old) (p refl)
 
@@ -84,12 +84,12 @@ module _ {H : Type 0} (w : Writer H) (h : SpacePacketHeader) (x : H) (a : Asks) 
       let c = then-gives (w.first x) _ tt p in
       k.coded c.1 (then-gives (header_check h) _ tt c.2).2 v
 
-  write-is : (b : Bool) (n m : ℕ) → write_with (asked_by a h) (check_answer a.version) (6 + length s) b n m ≡ write_by w h x b n m
+  write-is : (b : Bool) (n m : ℕ) → write_with (asked_by a h) (answer_of a.version) (6 + length s) b n m ≡ write_by w h x b n m
   write-is b n m =
       ap₂ (λ (p v : Passed). write_with p v (6 + length s) b n m) asked_is (ap (λ (z : Asked). z.version) k.asks-is)
       ∙ write-start (w.first x) _ (w.version x) (6 + length s) (start_by w) b n m (λ p. ap (λ (z : ℕ). 6 + z) (k.sized p))
 
-  reserve-is : (b : Bool) (n m : ℕ) → reserve_with (asked_by a h) (check_answer a.version) (6 + length s) b n m ≡ reserve_by w h x b n m
+  reserve-is : (b : Bool) (n m : ℕ) → reserve_with (asked_by a h) (answer_of a.version) (6 + length s) b n m ≡ reserve_by w h x b n m
   reserve-is b n m =
       ap₂ (λ (p v : Passed). reserve_with p v (6 + length s) b n m) asked_is (ap (λ (z : Asked). z.version) k.asks-is)
       ∙ reserve-start (w.first x) _ (w.version x) (6 + length s) (start_by w) b n m (λ p. ap (λ (z : ℕ). 6 + z) (k.sized p))
@@ -99,8 +99,8 @@ module _ {H : Type 0} (w : Writer H) (h : SpacePacketHeader) (x : H) (a : Asks) 
 
   -- ---- the calls
 
-  module _ (b : Bool) (d l m : List ℕ) (r : SizeResult) where
-    wrote : Wrote (write_with (asked_by a h) (check_answer a.version) (6 + length s) b (length d) (length l)) (closed b (header_octets h ++ s ++ d)) l r m
+  module _ (b : Bool) (d l m : List ℕ) (r : Result ℕ PusError) where
+    wrote : Wrote (write_with (asked_by a h) (answer_of a.version) (6 + length s) b (length d) (length l)) (closed b (header_octets h ++ s ++ d)) l r m
         → Wrote (write_by w h x b (length d) (length l)) (octets_by w h x b d) l r m
     wrote u =
         let e = write-is b (length d) (length l) in
@@ -111,7 +111,7 @@ module _ {H : Type 0} (w : Writer H) (h : SpacePacketHeader) (x : H) (a : Asks) 
               ∙ left-same _ _ _ l (λ n p. ap (closed b) (content-is d (write-coded b (length d) (length l) n p)));
         }
 
-    wrote-bare : Wrote (bare_with (asked_by a h) (check_answer a.version) (6 + length s) b (length d) (length l)) (header_octets h ++ s ++ d) l r m
+    wrote-bare : Wrote (bare_with (asked_by a h) (answer_of a.version) (6 + length s) b (length d) (length l)) (header_octets h ++ s ++ d) l r m
         → Wrote (bare_by w h x b (length d) (length l)) (content_by w h x d) l r m
     wrote-bare u =
         let e = ap (λ (z : Answer ℕ). z then λ total. gives (total - trailer b)) (write-is b (length d) (length l)) in
@@ -123,23 +123,23 @@ module _ {H : Type 0} (w : Writer H) (h : SpacePacketHeader) (x : H) (a : Asks) 
         }
 
     pub put-wrote : (bare : Bool)
-        → Wrote (put_with bare (asked_by a h) (check_answer a.version) (6 + length s) b (length d) (length l)) (put_octets bare b (header_octets h ++ s ++ d)) l r m
+        → Wrote (put_with bare (asked_by a h) (answer_of a.version) (6 + length s) b (length d) (length l)) (put_octets bare b (header_octets h ++ s ++ d)) l r m
         → PutWrote w bare h x b d l r m
     put-wrote true = wrote-bare
     put-wrote false = wrote
 
   own_same : (p v : Passed) (o q : List ℕ) → (p ≡ gives tt → v ≡ gives tt → o ≡ q) → own_with p v o ≡ own_with p v q
-  unfolding own_with ◌then◌
+  unfolding own_with and_then
   own_same (refuses e) v o q f = refl
   own_same (gives u) (refuses e) o q f = refl
   own_same (gives u) (gives t) o q f = ap (own_with (gives u) (gives t)) (f refl refl)
 
-  pub own : (d : List ℕ) → own_with (asked_by a h) (check_answer a.version) (header_octets h ++ s ++ d) ≡ own_by w h x d
+  pub own : (d : List ℕ) → own_with (asked_by a h) (answer_of a.version) (header_octets h ++ s ++ d) ≡ own_by w h x d
   own d =
       ap₂ (λ (p v : Passed). own_with p v (header_octets h ++ s ++ d)) asked_is (ap (λ (z : Asked). z.version) k.asks-is)
       ∙ own_same (check_by w h x) (w.version x) _ _ (λ p v. content-is d (coded_by p v))
 
-  pub headed : (b : Bool) (n : ℕ) (l m : List ℕ) → m ≡ headed_at (6 + length s) (reserve_with (asked_by a h) (check_answer a.version) (6 + length s) b n (length l)) (header_octets (with_length h (total_for (6 + length s) b n - 7)) ++ s) l
+  pub headed : (b : Bool) (n : ℕ) (l m : List ℕ) → m ≡ headed_at (6 + length s) (reserve_with (asked_by a h) (answer_of a.version) (6 + length s) b n (length l)) (header_octets (with_length h (total_for (6 + length s) b n - 7)) ++ s) l
       → m ≡ headed_at (start_by w) (reserve_by w h x b n (length l)) (content_by w (with_length h (total_for (start_by w) b n - 7)) x []) l
   unfolding content_of
   headed b n l m u =
@@ -155,7 +155,7 @@ module _ {H : Type 0} (w : Writer H) (h : SpacePacketHeader) (x : H) (a : Asks) 
 
 afresh-start : (first : Passed) (rest : Unit {0} → Passed) (i j : ℕ) (b : Bool) (n : ℕ) (h : SpacePacketHeader) → (first ≡ gives tt → i ≡ j)
     → afresh_with (first then rest) i b n h ≡ afresh_with (first then rest) j b n h
-unfolding afresh_with ◌then◌ set_if
+unfolding afresh_with and_then set_if
 afresh-start (refuses e) rest i j b n h p = refl
 afresh-start (gives u) rest i j b n h p = ap (λ (k : ℕ). afresh_with (rest u) k b n h) (p refl)
 
@@ -164,11 +164,11 @@ module _ {H : Type 0} (w : Writer H) (h g : SpacePacketHeader) (x : H) (a : Asks
   unfolding header_check
   kind-same m eg = ap (λ (z : SpacePacketHeader). reserve_by w z x b n m) eg
 
-  pub reserve-answer : (m : ℕ) → g ≡ as_kind w h → reserve_with (asked_by a g) (check_answer a.version) (6 + length s) b n m ≡ reserve_by w h x b n m
+  pub reserve-answer : (m : ℕ) → g ≡ as_kind w h → reserve_with (asked_by a g) (answer_of a.version) (6 + length s) b n m ≡ reserve_by w h x b n m
   reserve-answer m eg = reserve-is w g x a s k b n m ∙ kind-same m eg
 
   pub reserve-left : (l m : List ℕ) → g ≡ as_kind w h
-      → m ≡ headed_at (6 + length s) (reserve_with (asked_by a g) (check_answer a.version) (6 + length s) b n (length l)) (header_octets (with_length g (total_for (6 + length s) b n - 7)) ++ s) l
+      → m ≡ headed_at (6 + length s) (reserve_with (asked_by a g) (answer_of a.version) (6 + length s) b n (length l)) (header_octets (with_length g (total_for (6 + length s) b n - 7)) ++ s) l
       → m ≡ headed_by w (reserve_by w h x b n (length l)) (head_by w h x b n) l
   reserve-left l m eg u =
       headed w g x a s k b n l m u

@@ -5,7 +5,7 @@ use mathlib.Core.Bool.{Bool, true, false}
 use native.Mathlib.Omega.{arith}
 use lib.Dec.{lit≤}
 use borrow.Author.Tests.{ltb-false, le-ltb}
-use Rattle.space_packet.specs.Answer.{Numbers, Answer, gives, refuses, refuse_if, ◌then◌, in_buffer}
+use Rattle.space_packet.specs.Answer.{Numbers, Answer, gives, refuses, refuse_if, ◌then◌, in_buffer, and_then}
 use Rattle.space_packet.proofs.Answers.{gives-inj, refuse-no, refuse-gives, then-gives, gives_then}
 use Rattle.ecss.specs.Frame.{trailer, max_total}
 use Rattle.ecss_write.specs.Write.{total_for, machine_total, limited, length_field, write_in}
@@ -27,13 +27,13 @@ in-buffer-is m n t p = let r = refuse-gives _ _ _ t p in (sym (gives-inj n t r.1
 
 -- what is asked of a total that is not refused may be asked of what the refusal hands on
 refused-or-same : (b : Bool) (e : Numbers) (t : ℕ) (f : ℕ → Answer ℕ) → (refuse_if b e (gives t) then λ _. f t) ≡ (refuse_if b e (gives t) then f)
-unfolding ◌then◌ refuse_if
+unfolding and_then refuse_if
 refused-or-same true e t f = refl
 refused-or-same false e t f = refl
 
 -- so the limit is a step of its own between a total a and what is asked after it
 pub limit-first : (n : ℕ) (a : Answer ℕ) (f : ℕ → Answer ℕ) → (a then λ t. limited n t then λ _. f t) ≡ ((a then limited n) then f)
-unfolding ◌then◌
+unfolding and_then
 limit-first n (refuses e) f = refl
 limit-first n (gives t) f = refused-or-same _ _ t f
 

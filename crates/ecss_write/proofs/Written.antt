@@ -7,15 +7,16 @@ use native.Mathlib.Omega.{arith}
 use lib.ListN.{length, take, drop, length-append, length-take, length-drop, drop_of_length-le}
 use borrow.Author.Tests.{ltb-false, le-ltb}
 use borrow.Rule.Slice.PartMut.{put_mid}
+use Rattle.std.specs.Prelude.{Result}
+use Rattle.space_packet.specs.Answer.{answer_of, Numbers, Answer, Passed, gives, refuses, ◌then◌, in_buffer, and_then}
+use Rattle.space_packet.specs.declared.PusError.{PusError}
 use Rattle.crc.specs.Digest.{digest_of, taken, checksum_held}
 use Rattle.crc.specs.declared.Digest.{Digest}
 use Rattle.crc.proofs.Parts.{digest-parts}
-use Rattle.space_packet.specs.Answer.{Numbers, Answer, Passed, gives, refuses, ◌then◌, size_answer, in_buffer}
 use Rattle.space_packet.specs.Header.{left_by, header_check, header_octets, header_write}
 use Rattle.space_packet.specs.Wrote.{Wrote}
 use Rattle.space_packet.specs.declared.SpacePacketHeader.{SpacePacketHeader}
-use Rattle.space_packet.specs.declared.SizeResult.{SizeResult}
-use Rattle.space_packet.proofs.Answers.{gives-inj, refuse-no, refuse-gives, then-gives, gives_then, then-refused, refuses-then, left-refused, left-written, kept_new, kept-old}
+use Rattle.space_packet.proofs.Answers.{gives-inj, refuse-no, refuse-gives, then-gives, gives_then, then-refused, left-refused, left-written, kept_new}
 use Rattle.space_packet.proofs.RoundTrip.{length-header_octets}
 use Rattle.ecss.specs.Frame.{trailer, sealed, closed}
 use Rattle.ecss_write.specs.Write.{total_for, machine_total, limited, length_field, write_in, asked, headed_at, write_with, bare_with, reserve_with, own_with, with_length, field_with, afresh_with}
@@ -38,15 +39,11 @@ pub field-stated : (start : ℕ) (b : Bool) (n : ℕ) → total_for start b n �
 field-stated start b n h = field_is start b n (total_for start b n) _ (total-length start b n _ refl (omega arith)) h refl
 
 passed-by : (c : Passed) (a : Answer ℕ) → ◌≡◌ {A = Passed} (c then λ _. a then λ _. gives tt) ((c then λ _. a) then λ _. gives tt)
-unfolding ◌then◌
+unfolding and_then
 passed-by (refuses e) a = refl
 passed-by (gives u) a = refl
 
 module _ (before : Passed) (start : ℕ) (b : Bool) (n old : ℕ) (h : SpacePacketHeader) where
-  pub afresh-refused : (e : Numbers) → field_with before start b n true old ≡ refuses e → record { passed = refuses e; kept = h } ≡ afresh_with before start b n h
-  unfolding field_with afresh_with
-  afresh-refused e p = let w = passed-by before (length_field start b n) ∙ refuses-then _ _ _ p in kept-old _ _ _ _ _ (sym w) w
-
   pub afresh-set : (f : ℕ) (k : SpacePacketHeader) → field_with before start b n true old ≡ gives f → k ≡ with_length h f → record { passed = gives tt; kept = k } ≡ afresh_with before start b n h
   unfolding field_with afresh_with
   afresh-set f k p q =
@@ -59,14 +56,14 @@ module _ (before : Passed) (start : ℕ) (b : Bool) (n old : ℕ) (h : SpacePack
 
 pub write-by-room : (before after : Passed) (start : ℕ) (b : Bool) (n m : ℕ)
     → write_with before after start b n m ≡ ((before then λ _. write_in start b n m) then λ total. after then λ _. gives total)
-unfolding write_with ◌then◌
+unfolding write_with and_then
 write-by-room (refuses e) after start b n m = refl
 write-by-room (gives u) (refuses e) start b n m = refl
 write-by-room (gives u) (gives t) start b n m = refl
 
 pub reserve-by-room : (before after : Passed) (start : ℕ) (b : Bool) (n m : ℕ)
     → reserve_with before after start b n m ≡ ((before then λ _. write_in start b n m) then λ total. limited n total then λ _. after then λ _. gives total)
-unfolding reserve_with ◌then◌
+unfolding reserve_with and_then
 reserve-by-room (refuses e) after start b n m = refl
 reserve-by-room (gives u) (refuses e) start b n m = refl
 reserve-by-room (gives u) (gives t) start b n m = refl
@@ -124,7 +121,7 @@ module _ (before after : Passed) (start : ℕ) (b : Bool) (n m total : ℕ) wher
 
 -- with the checksum off the two answers agree
 turned_same : (a : Answer ℕ) (b : Bool) → b ≡ false → (a then λ x. gives (x - trailer b)) ≡ a
-unfolding ◌then◌
+unfolding and_then
 turned_same (refuses e) b p = refl
 turned_same (gives x) b p = ap gives (omega (arith, ap trailer p))
 
@@ -135,13 +132,13 @@ bare-is-write before after start b n m p = turned_same (write_with before after 
 
 module _ (before after : Passed) (start : ℕ) (b : Bool) (n : ℕ) (o l : List ℕ) (z : length o ≡ start + n) where
   -- none
-  pub open-wrote : (y : List ℕ) (r : SizeResult) → b ≡ false
+  pub open-wrote : (y : List ℕ) (r : Result ℕ PusError) → b ≡ false
       → Wrote (bare_with before after start b n (length l)) o l r y → Wrote (write_with before after start b n (length l)) (closed b o) l r y
   open-wrote y r h w =
       let e = bare-is-write before after start b n (length l) h in
       record { answered = w.answered ∙ e; left = w.left ∙ ap₂ (λ (a : Answer ℕ) (c : Bool). left_by a (closed c o) l) e (sym h) }
 
-  pub refused-wrote : (y : List ℕ) (r : SizeResult) (e : Numbers) → size_answer r ≡ refuses e
+  pub refused-wrote : (y : List ℕ) (r : Result ℕ PusError) (e : Numbers) → answer_of r ≡ refuses e
       → Wrote (bare_with before after start b n (length l)) o l r y → Wrote (write_with before after start b n (length l)) (closed b o) l r y
   refused-wrote y r e p w =
       let a = sym w.answered ∙ p in
@@ -149,7 +146,7 @@ module _ (before after : Passed) (start : ℕ) (b : Bool) (n : ℕ) (o l : List 
       record { answered = p ∙ sym c; left = w.left ∙ left-refused _ _ _ _ a ∙ sym (left-refused _ _ _ _ c) }
 
   -- one
-  pub sealed-wrote : (m y : List ℕ) (r : SizeResult) (q : ℕ) → b ≡ true → bare_with before after start b n (length l) ≡ gives q
+  pub sealed-wrote : (m y : List ℕ) (r : Result ℕ PusError) (q : ℕ) → b ≡ true → bare_with before after start b n (length l) ≡ gives q
       → length m ≡ length l → length l ≤ 18446744073709551615 → m ≡ left_by (bare_with before after start b n (length l)) o l
       → Wrote (write_in start true n (length m)) (sealed (take (start + n) m)) m r y
       → Wrote (write_with before after start b n (length l)) (closed b o) l r y
@@ -215,8 +212,8 @@ pub content-length : (h : SpacePacketHeader) (s d : List ℕ) → length (header
 content-length h s d = omega (arith, length-append (header_octets h ++ s) d, head-length h s)
 
 -- the data behind them
-pub bare-wrote : (before after : Passed) (h : SpacePacketHeader) (s d l m y : List ℕ) (b : Bool) (r : SizeResult) (total : ℕ) → write_with before after (6 + length s) b (length d) (length l) ≡ gives total
-    → m ≡ header_octets h ++ s ++ drop (6 + length s) l → y ≡ take (6 + length s) m ++ d ++ drop (6 + length s + length d) m → size_answer r ≡ gives (6 + length s + length d)
+pub bare-wrote : (before after : Passed) (h : SpacePacketHeader) (s d l m y : List ℕ) (b : Bool) (r : Result ℕ PusError) (total : ℕ) → write_with before after (6 + length s) b (length d) (length l) ≡ gives total
+    → m ≡ header_octets h ++ s ++ drop (6 + length s) l → y ≡ take (6 + length s) m ++ d ++ drop (6 + length s + length d) m → answer_of r ≡ gives (6 + length s + length d)
     → Wrote (bare_with before after (6 + length s) b (length d) (length l)) (header_octets h ++ s ++ d) l r y
 bare-wrote before after h s d l m y b r total p em ey er =
     let g = bare-gives before after (6 + length s) b (length d) (length l) total p in

@@ -1,22 +1,14 @@
 -- Packets written, over `start`, the octet at which their data starts: totals, lengths, room; and the write path, over what a kind
 -- of packet asks before the room and after it.
-use Rattle.std.specs.Prelude.{ℕ, ◌+◌, ◌-◌, Bool, true, List, [], ◌∷◌, ◌++◌, ltb, drop}
+use Rattle.std.specs.Prelude.{ℕ, ◌+◌, ◌-◌, Bool, true, List, [], ◌∷◌, ◌++◌, ltb, drop, Option, Some, None}
+use Rattle.space_packet.specs.Answer.{answer_of, Answer, Passed, Kept, refusal, gives, refuses, refuse_if, ◌then◌, set_if, in_buffer}
 use Rattle.crc_register.specs.Crc.{crc_of}
 use Rattle.space_packet.specs.Bits.{pick}
-use Rattle.space_packet.specs.Answer.{Answer, Passed, Kept, refusal, gives, refuses, refuse_if, ◌then◌, set_if, check_answer, numbers_of, in_buffer}
 use Rattle.space_packet.specs.Header.{header_check, header_of, id_from, with_id}
 use Rattle.space_packet.specs.declared.SpacePacketHeader.{SpacePacketHeader}
 use Rattle.space_packet.specs.declared.PacketType.{PacketType}
 use Rattle.ecss.specs.Frame.{trailer, closed, max_total}
-use Rattle.ecss.specs.declared.Crc16.{Crc16}
-use Rattle.ecss.specs.declared.Crc16.TheVariants.{Some, None}
 use Rattle.ecss_write.specs.declared.packet.Asks.{Asks}
-use Rattle.ecss_write.specs.declared.packet.CrcResult.{CrcResult}
-use Rattle.ecss_write.specs.declared.packet.CrcResult.TheVariants as C
-use Rattle.ecss_write.specs.declared.packet.ChecksumResult.{ChecksumResult}
-use Rattle.ecss_write.specs.declared.packet.ChecksumResult.TheVariants as K
-use Rattle.ecss_write.specs.declared.DataLenResult.{DataLenResult}
-use Rattle.ecss_write.specs.declared.DataLenResult.TheVariants as D
 
 -- the total of n octets of data
 abbrev pub total_for : ℕ → Bool → ℕ → ℕ
@@ -34,10 +26,6 @@ limited n total = refuse_if (ltb max_total total) (refusal 6 (n ∷ [])) (gives 
 -- CCSDS 133.0-B-2, 4.1.3.5, packet data length: the field of that total, which for a packet is at least 7
 unfoldable pub length_field : ℕ → Bool → ℕ → Answer ℕ
 length_field start b n = machine_total start b n then λ total. limited n total then λ _. gives (total - 7)
-
-abbrev pub data_len_answer : DataLenResult → Answer ℕ
-data_len_answer (D.Ok n) = gives n
-data_len_answer (D.Err e) = refuses (numbers_of e)
 
 -- writing n octets of data with the trailer b into a buffer of m
 unfoldable pub write_in : ℕ → Bool → ℕ → ℕ → Answer ℕ
@@ -75,7 +63,7 @@ unfoldable pub own_with : Passed → Passed → List ℕ → Answer ℕ
 own_with before after content = before then λ _. after then λ _. gives (crc_of content)
 
 -- the checksum that is written: none, or that
-unfoldable pub checksum_with : Bool → Answer ℕ → Answer Crc16
+unfoldable pub checksum_with : Bool → Answer ℕ → Answer (Option ℕ)
 checksum_with b own = pick b (own then λ n. gives (Some n)) (gives None)
 
 -- ---- the header that is written
@@ -116,16 +104,8 @@ pub record Asked : Type 0 where
   pub version : Passed
 
 abbrev pub asks_answer : Asks → Asked
-asks_answer a = record { first = check_answer a.first; fields = check_answer a.fields; version = check_answer a.version }
+asks_answer a = record { first = answer_of a.first; fields = answer_of a.fields; version = answer_of a.version }
 
 -- what is asked before the room, beside the primary header h
 abbrev pub asked_by : Asks → SpacePacketHeader → Passed
-asked_by a h = asked (check_answer a.first) h (check_answer a.fields)
-
-abbrev pub crc_answer : CrcResult → Answer ℕ
-crc_answer (C.Ok n) = gives n
-crc_answer (C.Err e) = refuses (numbers_of e)
-
-abbrev pub checksum_answer : ChecksumResult → Answer Crc16
-checksum_answer (K.Ok c) = gives c
-checksum_answer (K.Err e) = refuses (numbers_of e)
+asked_by a h = asked (answer_of a.first) h (answer_of a.fields)

@@ -1,12 +1,12 @@
 -- The write path of a kind of packet, whose secondary header is an H: construction, the length, the writes, the checksum, and
 -- reserving. The data d, or their number n, travel beside the headers h and x; b says whether there is a checksum.
-use Rattle.std.specs.Prelude.{ℕ, ◌+◌, ◌-◌, ◌≤◌, ◌≡◌, Bool, false, List, [], length}
+use Rattle.std.specs.Prelude.{ℕ, ◌+◌, ◌-◌, ◌≤◌, ◌≡◌, Bool, false, List, [], length, Result}
+use Rattle.space_packet.specs.declared.PusError.{PusError}
 use Rattle.space_packet.specs.Answer.{Answer, Passed, Kept, gives}
 use Rattle.space_packet.specs.Fields.{is_idle}
 use Rattle.space_packet.specs.Header.{InRange}
 use Rattle.space_packet.specs.Wrote.{Wrote}
 use Rattle.space_packet.specs.declared.SpacePacketHeader.{SpacePacketHeader}
-use Rattle.space_packet.specs.declared.SizeResult.{SizeResult}
 use Rattle.ecss.specs.Frame.{closed, max_total}
 use Rattle.ecss.specs.Kind.{Kind, KindLaws, Packet, start_of, content_of}
 use Rattle.ecss_write.specs.Write.{total_for, Asked, asked, write_with, bare_with, put_with, put_octets, reserve_with, own_with, as_type, with_length, headed_at, made_with, afresh_with}
@@ -73,7 +73,7 @@ module _ {H : Type 0} (w : Writer H) where
   bare_by h x b n m = bare_with (check_by h x) (w.version x) start_by b n m
 
   -- what either of them answers, and leaves of the buffer
-  abbrev pub PutWrote : Bool → SpacePacketHeader → H → Bool → List ℕ → List ℕ → SizeResult → List ℕ → Type 0
+  abbrev pub PutWrote : Bool → SpacePacketHeader → H → Bool → List ℕ → List ℕ → Result ℕ PusError → List ℕ → Type 0
   PutWrote bare h x b d before r after =
       Wrote (put_with bare (check_by h x) (w.version x) start_by b (length d) (length before)) (put_octets bare b (content_by h x d)) before r after
 

@@ -1,37 +1,31 @@
 // Packets of every kind written, over the octet at which their data starts: totals, lengths, the room for them, and the checksum
 // behind them.
-#![tactic(auto)]
+#![tactic(auto, unfolding(space_packet::specs::Answer::and_then, space_packet::specs::Answer::set_if, space_packet::specs::Answer::refuse_if))]
 
 ghost use Rattle.std.specs.Prelude.{◌≡◌, true, ◌++◌, ◌+◌, ◌-◌, ◌^◌, ◌≤◌, length, take, drop};
-ghost use Rattle.space_packet.specs.Answer.{◌then◌, size_answer, in_buffer};
+ghost use Rattle.space_packet.specs.Answer.{◌then◌, in_buffer, answer_of};
 ghost use Rattle.space_packet.specs.Wrote.{Wrote};
 ghost use Rattle.ecss.specs.Frame.{sealed, max_total};
-ghost use Rattle.ecss_write.specs.Write.{machine_total, limited, length_field, data_len_answer, write_in};
+ghost use Rattle.ecss_write.specs.Write.{machine_total, limited, length_field, write_in};
 
 use ecss::frame;
-use space_packet::{ByteConversionError, PusError, SizeResult};
+use space_packet::{ByteConversionError, PusError};
 
 pub mod packet;
 
 // The total of some octets of data; 6 where no machine size holds it.
-pub fn total_of(start: usize, data_len: usize, has_checksum: bool) -> SizeResult
-    ensures { size_answer result ≡ machine_total start has_checksum data_len }
+pub fn total_of(start: usize, data_len: usize, has_checksum: bool) -> Result<usize, PusError>
+    ensures { answer_of result ≡ machine_total start has_checksum data_len }
 {
     let trailer = frame::trailer_len(has_checksum);
     let most = 18446744073709551615 - trailer;
     if most < start {
-        return SizeResult::Err(PusError::PacketTooLong(data_len));
+        return Err(PusError::PacketTooLong(data_len));
     }
     if most - start < data_len {
-        return SizeResult::Err(PusError::PacketTooLong(data_len));
+        return Err(PusError::PacketTooLong(data_len));
     }
-    SizeResult::Ok(start + data_len + trailer)
-}
-
-#[derive(Clone, Copy)]
-pub enum DataLenResult {
-    Ok(u16),
-    Err(PusError),
+    Ok(start + data_len + trailer)
 }
 
 // The largest total that a length field states.
@@ -44,19 +38,14 @@ fn max_total() -> usize
     MAX_TOTAL
 }
 
-// 6 where a total of some octets of data is above that.
-pub(crate) fn within_limit(data_len: usize, passed: SizeResult) -> SizeResult
-    ensures { size_answer result ≡ (size_answer passed then limited data_len) }
+// 6 where the total of some octets of data is above that.
+pub(crate) fn within_limit(data_len: usize, total: usize) -> Result<usize, PusError>
+    ensures { answer_of result ≡ limited data_len total }
 {
-    match passed {
-        SizeResult::Err(e) => SizeResult::Err(e),
-        SizeResult::Ok(total) => {
-            if MAX_TOTAL < total {
-                return SizeResult::Err(PusError::PacketTooLong(data_len));
-            }
-            SizeResult::Ok(total)
-        }
+    if MAX_TOTAL < total {
+        return Err(PusError::PacketTooLong(data_len));
     }
+    Ok(total)
 }
 
 // The length field of a total; no field states fewer octets than 7.
@@ -71,64 +60,47 @@ pub(crate) fn field_of(total: usize) -> u16
 }
 
 // The length field of some octets of data; 6 where the total is above 65,542.
-pub fn data_len_field(start: usize, data_len: usize, has_checksum: bool) -> DataLenResult
-    ensures { data_len_answer result ≡ length_field start has_checksum data_len }
+#[tactic(auto, unfolding(space_packet::specs::Answer::and_then, crate::specs::Write::length_field))]
+pub fn data_len_field(start: usize, data_len: usize, has_checksum: bool) -> Result<u16, PusError>
+    ensures { answer_of result ≡ length_field start has_checksum data_len }
 {
-    let t = within_limit(data_len, total_of(start, data_len, has_checksum));
-    match t {
-        SizeResult::Err(e) => DataLenResult::Err(e),
-        SizeResult::Ok(total) => DataLenResult::Ok(field_of(total)),
-    }
+    let total = within_limit(data_len, total_of(start, data_len, has_checksum)?)?;
+    Ok(field_of(total))
 }
 
 // 1 where a buffer of `found` octets has no room for `expected`.
-fn in_buffer(found: usize, expected: usize) -> SizeResult
-    ensures { size_answer result ≡ in_buffer found expected }
+fn in_buffer(found: usize, expected: usize) -> Result<usize, PusError>
+    ensures { answer_of result ≡ in_buffer found expected }
 {
     if found < expected {
-        return SizeResult::Err(PusError::ByteConversion(ByteConversionError::ToSliceTooSmall {
+        return Err(PusError::ByteConversion(ByteConversionError::ToSliceTooSmall {
             found,
             expected,
         }));
     }
-    SizeResult::Ok(expected)
+    Ok(expected)
 }
 
 // 6, then 1: whether some octets of data have room in a buffer of `found`; the answer is the total.
-pub fn room_for(start: usize, data_len: usize, has_checksum: bool, found: usize) -> SizeResult
-    ensures { size_answer result ≡ write_in start has_checksum data_len found }
+#[tactic(auto, unfolding(space_packet::specs::Answer::and_then, crate::specs::Write::write_in))]
+pub fn room_for(
+    start: usize,
+    data_len: usize,
+    has_checksum: bool,
+    found: usize,
+) -> Result<usize, PusError>
+    ensures { answer_of result ≡ write_in start has_checksum data_len found }
 {
-    let t = total_of(start, data_len, has_checksum);
-    match t {
-        SizeResult::Err(e) => SizeResult::Err(e),
-        SizeResult::Ok(total) => in_buffer(found, total),
-    }
-}
-
-// Copies `data` over the first octets of `part`.
-fn copy(part: &mut [u8], data: &[u8])
-    requires { length «data».now ≤ length part.old }
-    ensures { part.new ≡ «data».now ++ drop (length «data».now) part.old }
-{
-    let mut i: usize = 0;
-    while i < data.len() {
-        part[i] = data[i];
-        i += 1;
-    }
+    in_buffer(found, total_of(start, data_len, has_checksum)?)
 }
 
 // Fills a lent part with `data` from its start; 1 where there is more data than room.
-pub fn fill(part: &mut [u8], data: &[u8]) -> SizeResult
+pub fn fill(part: &mut [u8], data: &[u8]) -> Result<usize, PusError>
     ensures { Wrote (in_buffer (length part.old) (length «data».now)) «data».now part.old result part.new }
 {
-    let room = in_buffer(part.len(), data.len());
-    match room {
-        SizeResult::Err(e) => SizeResult::Err(e),
-        SizeResult::Ok(n) => {
-            copy(part, data);
-            SizeResult::Ok(n)
-        }
-    }
+    let n = in_buffer(part.len(), data.len())?;
+    part[..n].copy_from_slice(data);
+    Ok(n)
 }
 
 // Writes the checksum over the first `end` octets behind them.
@@ -142,15 +114,10 @@ fn put_checksum(buf: &mut [u8], end: usize)
 }
 
 // Writes the checksum over the headers and `data_len` octets of data behind them.
-pub fn seal(start: usize, data_len: usize, buf: &mut [u8]) -> SizeResult
+pub fn seal(start: usize, data_len: usize, buf: &mut [u8]) -> Result<usize, PusError>
     ensures { Wrote (write_in start true data_len (length buf.old)) (sealed (take (start + data_len) buf.old)) buf.old result buf.new }
 {
-    let room = room_for(start, data_len, true, buf.len());
-    match room {
-        SizeResult::Err(e) => SizeResult::Err(e),
-        SizeResult::Ok(total) => {
-            put_checksum(buf, total - 2);
-            SizeResult::Ok(total)
-        }
-    }
+    let total = room_for(start, data_len, true, buf.len())?;
+    put_checksum(buf, total - 2);
+    Ok(total)
 }

@@ -8,14 +8,14 @@ use mathlib.Core.List.{List, [], ◌++◌}
 use native.Mathlib.Omega.{arith}
 use lib.ListN.{length, take, drop}
 use borrow.Author.Tests.{eq-eqb, ne_eqb, eqb-false}
+use Rattle.std.specs.Prelude.{Result, Ok}
+use Rattle.space_packet.specs.declared.PusError.{PusError}
 use Rattle.space_packet.specs.Answer.{Numbers, Answer, Passed, gives, refuses, refusal}
 use Rattle.space_packet.specs.Fields.{type_number, is_idle}
 use Rattle.space_packet.specs.Header.{read_header}
 use Rattle.space_packet.specs.Wrote.{Wrote}
 use Rattle.space_packet.specs.declared.Apid.{Apid}
 use Rattle.space_packet.specs.declared.SpacePacketHeader.{SpacePacketHeader}
-use Rattle.space_packet.specs.declared.SizeResult.{SizeResult}
-use Rattle.space_packet.specs.declared.SizeResult.TheVariants as Z
 use Rattle.space_packet.proofs.Answers.{gives-inj, refuse-no, refuse-yes, then-gives, gives_then, refuses-then, then-refused, left-written}
 use Rattle.space_packet.proofs.Determined.{writes}
 use Rattle.ecss.specs.Frame.{Octets, stated_of, Told}
@@ -161,7 +161,7 @@ module _ {H : Type 0} (w : Writer H) (l : WriterLaws w) where
   module _ {R : Type 0} (report_for : Packet H → R) (verdict : List ℕ → Answer R)
       (reports : (s : List ℕ) (p : Packet H) → BeginsWith w.kind s p → verdict s ≡ gives (report_for p)) where
     -- in a buffer that has room, with anything after it
-    pub written-accepted : (h : SpacePacketHeader) (x : H) (d before after : List ℕ) (r : SizeResult)
+    pub written-accepted : (h : SpacePacketHeader) (x : H) (d before after : List ℕ) (r : Result ℕ PusError)
         → Rules w.kind (packet_by h x d) → Room w.kind d before
         → Wrote (write_by w h x true (length d) (length before)) (octets_by w h x true d) before r after
         → Accepted w.kind report_for verdict (packet_by h x d) before r after
@@ -170,7 +170,7 @@ module _ {H : Type 0} (w : Writer H) (l : WriterLaws w) where
         let g = rules-write w l h x d (length before) u m.fits m.is_slice in
         let e = v.left ∙ left-written _ _ _ _ g in
         record {
-          answers = (writes _ _ _ r (Z.Ok n) after _ v (record { answered = sym g; left = refl })).0;
+          answers = (writes _ _ _ r (Ok n) after _ v (record { answered = sym g; left = refl })).0;
           leaves = e;
           accepted = reports after (packet_by h x d) (record { rules = u; rest = drop n before; octets = e });
         }
@@ -181,7 +181,7 @@ module _ {H : Type 0} (w : Writer H) (l : WriterLaws w) where
       filled_from m = filled_by (fill_in (start_by w) (held_by w true (total_for w.kind p.user)) (length m) (length p.user)) (start_by w) p.user m
 
       -- what was reserved, filled in and finished is accepted
-      pub reserved-accepted : (r : SizeResult) (after : List ℕ) → FinishedBy w (start_by w) (held_by w true (total_for w.kind p.user)) p before r after
+      pub reserved-accepted : (r : Result ℕ PusError) (after : List ℕ) → FinishedBy w (start_by w) (held_by w true (total_for w.kind p.user)) p before r after
           → Accepted w.kind report_for verdict (made_of w p) before r after
       reserved-accepted r after v =
           let h = p.primary in

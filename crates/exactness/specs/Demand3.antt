@@ -1,10 +1,9 @@
 -- What the customer asks of a strict verdict, and of what is written, for every kind k of packet. The written rules are `Rules k p`, and
 -- that octets s begin with the packet of p under them is `BeginsWith k s p` (`ecss`, specs/Kind.antt); p is two headers and data.
-use Rattle.std.specs.Prelude.{ℕ, ◌+◌, ◌≤◌, ◌≡◌, ◌↔◌, Bool, true, List, [], ◌++◌, length, drop}
+use Rattle.std.specs.Prelude.{ℕ, ◌+◌, ◌≤◌, ◌≡◌, ◌↔◌, Bool, true, List, [], ◌++◌, length, drop, Result, Ok}
+use Rattle.space_packet.specs.declared.PusError.{PusError}
 use Rattle.space_packet.specs.Answer.{Answer, Numbers, gives, refuses, refusal}
 use Rattle.space_packet.specs.Wrote.{Wrote}
-use Rattle.space_packet.specs.declared.SizeResult.{SizeResult}
-use Rattle.space_packet.specs.declared.SizeResult.TheVariants.{Ok}
 use Rattle.ecss.specs.Frame.{stated_of, Told}
 use Rattle.ecss.specs.Kind.{Kind, Packet, Rules, BeginsWith, as_idle, start_of, packet_of}
 use Rattle.ecss_write.specs.Writer.{Writer, packet_by, start_by, made_by, reserve_by, head_by, headed_by}
@@ -52,7 +51,7 @@ module _ {H : Type 0} (k : Kind H) where
 
 -- the answer r is the total; `after` is the packet, and behind it what was there before; and the verdict accepts it
 pub record Accepted {H R : Type 0} (k : Kind H) (report_for : Packet H → R) (verdict : List ℕ → Answer R)
-    (p : Packet H) (before : List ℕ) (r : SizeResult) (after : List ℕ) : Type 0 where
+    (p : Packet H) (before : List ℕ) (r : Result ℕ PusError) (after : List ℕ) : Type 0 where
   pub answers : r ≡ Ok (total_for k p.user)
   pub leaves : after ≡ packet_of k p ++ drop (total_for k p.user) before
   pub accepted : verdict after ≡ gives (report_for p)
@@ -68,7 +67,7 @@ module _ {H : Type 0} (w : Writer H) where
 
   -- the reserved writer: the contracts by which the headers are left, the data is filled in where the reservation q has it from
   -- `start`, and the finish, in both checksum forms, answers r and leaves `after`
-  pub record FinishedBy (start : ℕ) (q : Reservation) (p : Packet H) (before : List ℕ) (r : SizeResult) (after : List ℕ) : Type 0 where
+  pub record FinishedBy (start : ℕ) (q : Reservation) (p : Packet H) (before : List ℕ) (r : Result ℕ PusError) (after : List ℕ) : Type 0 where
     pub headed : List ℕ
     pub filled : List ℕ
     pub reserves :

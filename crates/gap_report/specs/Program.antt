@@ -1,7 +1,7 @@
 -- What the program prints.
 use Rattle.std.specs.Prelude.{ℕ, List}
 use Rattle.input.specs.Printing.{printed_by}
-use Rattle.input.specs.declared.Input.{Input}
+use Rattle.input.specs.Reading.{Input}
 use Rattle.text.specs.Ascii.{ascii}
 use Rattle.gap_report.specs.Report.{report_text}
 

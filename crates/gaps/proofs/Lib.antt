@@ -1,7 +1,6 @@
 pub mod Determined
 pub mod Moves
 pub mod Places
-pub mod Records
 pub mod Scans
 pub mod Turns
 pub mod Walks

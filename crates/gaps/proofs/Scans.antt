@@ -1,20 +1,19 @@
 -- What an accepted command does, case by case.
 use Prim.Native.Nat.{ℕ, ◌+◌, ◌≤◌, ◌<◌}
-use mathlib.Core.Path.{◌≡◌, sym, ap, ◌∙◌, subst}
+use mathlib.Core.Path.{◌≡◌, refl, sym, ap, ◌∙◌}
+use mathlib.Core.Bool.{Bool, true, false}
 use mathlib.Core.List.{List, [], ◌∷◌}
 use native.Mathlib.Omega.{arith}
-use lib.ListN.{length, get_or, take, set, length-set}
-use lib.Seq.{length-take-le}
-use borrow.Author.Tests.{eq-eqb, ne_eqb, le-leb, lt-leb}
-use Rattle.space_packet.specs.Answer.{refusal, numbers_of}
+use lib.ListN.{length, get_or, take, set, length-take}
+use lib.Dec.{leb}
+use borrow.Author.Tests.{eq-eqb, ne_eqb, le-leb, lt-leb, leb-true, leb-false}
+use Rattle.std.specs.Prelude.{Result, Ok, Err}
+use Rattle.space_packet.specs.Answer.{Kept, Numbers, refusal, refuse_if, gives, set_if, outcome}
 use Rattle.space_packet.specs.declared.PusError.{PusError}
-use Rattle.space_packet.specs.declared.PusError.TheVariants.{TooManyApids}
-use Rattle.gaps.specs.declared.Act.{Act}
-use Rattle.gaps.specs.declared.Act.TheVariants as A
 use Rattle.gaps.specs.declared.Command.{Command}
-use Rattle.gaps.specs.declared.Scan.{Scan}
-use Rattle.gaps.specs.Gaps.{State, on, lists, stop, place_of, after_count, nobody, expected_at, with_accepted, noting, command_at, command_move, state_of, Sound, moved}
-use Rattle.gaps.proofs.Places.{place-le, entry_at, noted-new, noted-old}
+use Rattle.gaps.specs.Gaps.{Rows, State, Move, on, lists, stop, place_of, after_count, nobody, expected_at, with_accepted, noting, command_at, command_move, Reached, made, by_move}
+use Rattle.gaps.specs.declared.Totals.{Totals}
+use Rattle.gaps.proofs.Places.{entry_at, noted-old}
 
 at_place : (places : ℕ) (s : State) (n : ℕ) (l : Command) (p : ℕ) → p ≡ place_of s.lasts l.apid.0 → command_at places s n l p ≡ command_move places s n l
 unfolding command_move
@@ -37,85 +36,59 @@ module _ (places : ℕ) (s : State) (n : ℕ) (l : Command) (p : ℕ) (e : p ≡
       → lists (l.apid.0 ∷ expected_at s.lasts p ∷ l.count.0 ∷ []) (noting s p l (s.listed + 1) n) ≡ command_move places s n l
   gap h k m = sym (simp (lt-leb (length s.lasts) p h, ne_eqb l.count.0 (expected_at s.lasts p) k, lt-leb places s.listed m)) ∙ at_place places s n l p e
 
--- ---- the table of a scan
+-- ---- how a command is taken, in what the code holds: ls, of which the first n are the last commands
 
-abbrev pub entries_of : Scan → List Command
-entries_of s = take s.n s.lasts
+-- an APID that has not come yet
+abbrev with_rows : Kept State → Rows → Kept Reached
+with_rows k l = record { passed = k.passed; kept = record { state = k.kept; rows = l } }
 
-pub entries-length : (s : Scan) → Sound s → length (entries_of s) ≡ s.n
-entries-length s h = let a = h.0 in let b = h.1 in length-take-le s.n s.lasts (omega arith)
+made-with : (r : Result (Unit {0}) PusError) (t : State) (l : Rows) → made r t l ≡ with_rows (outcome r t) l
+made-with (Ok tt) t l = refl
+made-with (Err e) t l = refl
 
--- a scan with a count noted at p, among n APIDs
-abbrev pub scan_with : Scan → ℕ → Command → ℕ → ℕ → ℕ → Scan
-scan_with s p l n listed total = record { lasts = set s.lasts p l; n = n; listed = listed; totals = with_accepted s.totals total }
+by_room : (places : ℕ) (s : State) (n : ℕ) (c : Command) (l : Rows) (b : Bool) → place_of s.lasts c.apid.0 ≡ length s.lasts → leb 64 (length s.lasts) ≡ b
+    → with_rows (set_if (refuse_if b (refusal 31 []) (gives tt)) s (noting s (length s.lasts) c s.listed n)) l ≡ by_move (command_move places s n c) s l
+unfolding set_if refuse_if
+by_room places s n c l true e h = ap (λ (m : Move). by_move m s l) (full places s n c (length s.lasts) (sym e) (omega arith) (leb-true 64 (length s.lasts) h))
+by_room places s n c l false e h = ap (λ (m : Move). by_move m s l) (fresh places s n c (length s.lasts) (sym e) (omega arith) (leb-false 64 (length s.lasts) h))
 
-pub with-sound : (s : Scan) (p : ℕ) (l : Command) (n k total : ℕ) → Sound s → n ≤ 64 → Sound (scan_with s p l n k total)
-with-sound s p l n k total h m = (m, length-set s.lasts p l ∙ h.1)
+pub starts : (places : ℕ) (s : State) (n : ℕ) (c : Command) (l : Rows) (r : Result (Unit {0}) PusError) (t : State) → place_of s.lasts c.apid.0 ≡ length s.lasts
+    → outcome r t ≡ set_if (refuse_if (leb 64 (length s.lasts)) (refusal 31 []) (gives tt)) s (noting s (length s.lasts) c s.listed n)
+    → made r t l ≡ by_move (command_move places s n c) s l
+starts places s n c l r t e h = made-with r t l ∙ ap (λ (k : Kept State). with_rows k l) h ∙ by_room places s n c l (leb 64 (length s.lasts)) e refl
 
-module _ (s : Scan) (sound : Sound s) (a : ℕ) (p : ℕ) (e : p ≡ place_of (entries_of s) a) (l : Command) (k total : ℕ) where
-  -- it stands behind the last, or among them
-  pub behind : s.n ≤ p → p ≡ s.n
-  behind h = let b = place-le (entries_of s) a in let r = entries-length s sound in omega arith
+module _ (places : ℕ) (ls : List Command) (n k : ℕ) (t : Totals) (total : ℕ) (c : Command) where
+  abbrev now : State
+  now = record { lasts = take n ls; listed = k; totals = t }
 
-  pub with-new : s.n ≤ p → p < 64 → state_of (scan_with s p l (s.n + 1) k total) ≡ noting (state_of s) p l k total
-  with-new h m =
-      let b : p ≡ s.n = behind h in
-      let r = entries-length s sound in
-      let f = sound.1 in
-      ap (λ (x : List Command). record { lasts = x; listed = k; totals = with_accepted s.totals total })
-      (noted-new s.lasts s.n p l (omega arith) (omega arith) b)
+  abbrev noted_at : ℕ → ℕ → State
+  noted_at p listed = record { lasts = take n (set ls p c); listed = listed; totals = with_accepted t total }
 
-  pub with-old : p < s.n → state_of (scan_with s p l s.n k total) ≡ noting (state_of s) p l k total
-  with-old h =
-      let r = entries-length s sound in
-      ap (λ (x : List Command). record { lasts = x; listed = k; totals = with_accepted s.totals total })
-      (noted-old s.lasts s.n p l (omega arith) h)
+  pub moves : (s : State) (l : Rows) (m : Move) → now ≡ s → m ≡ command_move places now total c → by_move m now l ≡ by_move (command_move places s total c) s l
+  moves s l m v e = ap (λ (x : Move). by_move x now l) e ∙ ap (λ (z : State). by_move (command_move places z total c) z l) v
 
--- ---- how a command is taken, in what the code holds: what its turn is, and that the scan is sound
+  pub stops : (s : State) (l : Rows) (e : Numbers) → now ≡ s → stop e ≡ command_move places now total c → by_move (stop e) s l ≡ by_move (command_move places s total c) s l
+  stops s l e v q = ap (λ (z : State). by_move (stop e) z l) (sym v) ∙ moves s l (stop e) v q
 
-module _ (s : Scan) (sound : Sound s) (total : ℕ) (l : Command) (places a p : ℕ) (apid : a ≡ l.apid.0) (place : p ≡ place_of (entries_of s) a) where
-  abbrev Takes : Scan → Act → Type 0
-  Takes r act = (moved act (state_of r) ≡ command_move places (state_of s) total l) × Sound r
+  module _ (p : ℕ) (place : p ≡ place_of (take n ls) c.apid.0) (h : p < length (take n ls)) (x y : ℕ) (expected : x ≡ after_count (get_or ls p nobody).count.0) (found : y ≡ c.count.0) where
+    within : p < n
+    within = let e = length-take n ls in omega arith
 
-  stands : p ≡ place_of (entries_of s) l.apid.0
-  stands = place ∙ ap (place_of (entries_of s)) apid
+    expects : x ≡ expected_at (take n ls) p
+    expects = expected ∙ ap (λ (z : Command). after_count z.count.0) (sym (entry_at ls n p within))
 
-  pub takes_none : s.n ≤ p → 64 ≤ p → Takes s (A.Stop TooManyApids)
-  takes_none h k = let r = entries-length s sound in (full places (state_of s) total l p stands (omega (arith, r, h)) k, sound)
+    other : (y ≡ x → ⊥) → c.count.0 ≡ expected_at (take n ls) p → ⊥
+    other d e = d (found ∙ e ∙ sym expects)
 
-  pub takes_first : s.n ≤ p → p < 64 → (r : Scan) → r ≡ scan_with s p l (s.n + 1) s.listed total → Takes r A.On
-  takes_first h k r e =
-      let m = entries-length s sound in
-      let b : p ≡ s.n = behind s sound l.apid.0 p stands l 0 0 h in (
-        ap (λ (x : Scan). on (state_of x)) e ∙ ap on (with-new s sound l.apid.0 p stands l s.listed total h k)
-            ∙ fresh places (state_of s) total l p stands (omega (arith, m, h)) k,
-        subst Sound (sym e) (with-sound s p l (s.n + 1) s.listed total sound (omega (arith, b, k))),
-      )
+    noted-at : (listed : ℕ) → noted_at p listed ≡ noting now p c listed total
+    noted-at listed = ap (λ (z : List Command). record { lasts = z; listed = listed; totals = with_accepted t total }) (noted-old ls n p c h within)
 
-  module _ (h : p < s.n) (x y : ℕ) (expected : x ≡ after_count (get_or s.lasts p nobody).count.0) (found : y ≡ l.count.0) where
-    inside : p < length (entries_of s)
-    inside = let m = entries-length s sound in omega (arith, m, h)
+    pub takes-next : y ≡ x → on (noted_at p k) ≡ command_move places now total c
+    takes-next e = ap on (noted-at k) ∙ follows places now total c p place h (sym found ∙ e ∙ expects)
 
-    expects : x ≡ expected_at (entries_of s) p
-    expects = expected ∙ ap (λ (z : Command). after_count z.count.0) (sym (entry_at s.lasts s.n p h))
+    pub takes-no-place : (y ≡ x → ⊥) → places ≤ k → stop (refusal 1 (places ∷ (places + 1) ∷ [])) ≡ command_move places now total c
+    takes-no-place d e = no_place places now total c p place h (other d) e
 
-    other : (y ≡ x → ⊥) → l.count.0 ≡ expected_at (entries_of s) p → ⊥
-    other n z = n (found ∙ z ∙ sym expects)
-
-    pub takes-next : y ≡ x → (r : Scan) → r ≡ scan_with s p l s.n s.listed total → Takes r A.On
-    takes-next k r e = (
-      ap (λ (z : Scan). on (state_of z)) e ∙ ap on (with-old s sound l.apid.0 p stands l s.listed total h)
-          ∙ follows places (state_of s) total l p stands inside (sym found ∙ k ∙ expects),
-      subst Sound (sym e) (with-sound s p l s.n s.listed total sound sound.0),
-    )
-
-    pub takes-no-place : (y ≡ x → ⊥) → places ≤ s.listed → (e : PusError) → numbers_of e ≡ refusal 1 (places ∷ (places + 1) ∷ []) → Takes s (A.Stop e)
-    takes-no-place n k e q = (ap stop q ∙ no_place places (state_of s) total l p stands inside (other n) k, sound)
-
-    pub takes-gap : (y ≡ x → ⊥) → s.listed < places → (r : Scan) → r ≡ scan_with s p l s.n (s.listed + 1) total → Takes r (A.List a x y)
-    takes-gap n k r e = (
-      (λ i. lists (apid i ∷ expects i ∷ found i ∷ []) (state_of (e i)))
-          ∙ ap (lists (l.apid.0 ∷ expected_at (entries_of s) p ∷ l.count.0 ∷ [])) (with-old s sound l.apid.0 p stands l (s.listed + 1) total h)
-          ∙ gap places (state_of s) total l p stands inside (other n) k,
-      subst Sound (sym e) (with-sound s p l s.n (s.listed + 1) total sound sound.0),
-    )
+    pub takes-gap : (y ≡ x → ⊥) → k < places → (a : ℕ) → a ≡ c.apid.0 → lists (a ∷ x ∷ y ∷ []) (noted_at p (k + 1)) ≡ command_move places now total c
+    takes-gap d e a q =
+        (λ i. lists (q i ∷ expects i ∷ found i ∷ []) (noted-at (k + 1) i)) ∙ gap places now total c p place h (other d) e

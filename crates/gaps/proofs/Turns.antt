@@ -1,99 +1,99 @@
--- One turn of the loop, in what the code holds.
+-- One turn of the loop: the step from `at`, and what it leaves of the walk and of the list.
 use Prim.Native.Nat.{ℕ, ◌+◌, ◌≤◌, ◌<◌}
-use mathlib.Core.Path.{◌≡◌, refl, sym, ap, ◌∙◌, subst}
-use mathlib.Core.List.{List, [], ◌∷◌}
+use mathlib.Core.Path.{◌≡◌, sym, ap, ◌∙◌, subst}
+use mathlib.Core.List.{List}
 use native.Mathlib.Omega.{arith}
-use lib.ListN.{length, take}
-use Rattle.space_packet.specs.Answer.{refuses, numbers_of}
+use lib.ListN.{length}
+use Rattle.std.specs.Prelude.{Some, None, Ok, Err}
+use Rattle.std.proofs.lemmas.Option.{same_Some, none-some}
+use Rattle.space_packet.specs.Answer.{Kept, Passed, gives, refuses, numbers_of}
 use Rattle.space_packet.specs.declared.PusError.{PusError}
+use Rattle.space_packet.proofs.Answers.{never, refuses-inj}
 use Rattle.tc_strict.specs.Verdict.{strict_of}
-use Rattle.tc_strict.specs.Split.{Next, end, piece, length_of, step_answer, step_of}
-use Rattle.tc_strict.specs.declared.split.Step.{Step}
+use Rattle.tc_strict.specs.Split.{Piece, Next, end, piece, length_of, step_of}
+use Rattle.tc_strict.specs.declared.split.Cursor.{Cursor}
 use Rattle.tc_strict.proofs.Pieces.{step_is, ended_is}
-use Rattle.gaps.specs.Gaps.{Rows, State, gaps_of, begin, Listed, move_by, length_by, next_by, state_of, Sound, moved, put_by, turn_move}
-use Rattle.gaps.specs.declared.Act.{Act}
-use Rattle.gaps.specs.declared.Act.TheVariants as A
-use Rattle.gaps.specs.declared.Scan.{Scan}
-use Rattle.gaps.specs.declared.TotalsResult.TheVariants as T
-use Rattle.gaps.specs.declared.Turn.{Turn}
+use Rattle.gaps.specs.Gaps.{Rows, State, Move, on, lists, stop, begin, Listed, Reached, by_move, move_of, move_by, length_by, next_by, sum_of}
 use Rattle.gaps.proofs.Walks.{Here, here-begin, here_on, here-lists, here-stop, here_end, here-left}
 
--- a step goes on, and ends in the capture
-pub step-on : (s : List ℕ) (at n : ℕ) (x : Next) → at < length s → x ≡ step_of s at → (at < next_by x n) × (at + length_by x ≤ length s) × (next_by x n ≤ length s)
-step-on s at n end h e = absurd (let k = ended_is strict_of s at (sym e) in omega arith)
-step-on s at n (piece p next) h e =
+-- what one turn comes to, where the walk stands in t and the list holds now
+module _ (s : List ℕ) (before : Rows) where
+  abbrev told : Reached → PusError → Type 0
+  told r e = Listed s before (record { listed = r.state.listed; result = Err e }) r.rows
+
+  ended : (now : Rows) (t : State) (at : ℕ) → Here s before now t at → length s ≤ at → Listed s before (record { listed = t.listed; result = Ok t.totals }) now
+  ended now t at h k =
+      let q = here_end s before now t at h k in
+      let w = here-left s before now t at h _ q.0 in record { answered = sym q.1; counted = w.0; left = w.1 }
+
+  module _ (now : Rows) (t : State) (at : ℕ) (h : Here s before now t at) where
+    abbrev Moved : Passed → State → Rows → Move → Type 0
+    Moved a u rows m = record { passed = a; kept = record { state = u; rows = rows } } ≡ by_move m t now
+
+    left : (a : Passed) (u : State) (rows : Rows) (m : Move) → Moved a u rows m → record { state = u; rows = rows } ≡ (by_move m t now).kept
+    left a u rows m k = ap (λ (x : Kept Reached). x.kept) k
+
+    answers : (a : Passed) (u : State) (rows : Rows) (m : Move) → Moved a u rows m → a ≡ (by_move m t now).passed
+    answers a u rows m k = ap (λ (x : Kept Reached). x.passed) k
+
+    module _ (p : Piece) (next : ℕ) (k : at < length s) (e : step_of s at ≡ piece p next) where
+      goes-by : (u : State) (rows : Rows) (m : Move) → m ≡ move_of (length before) t p → Moved (gives tt) u rows m → Here s before rows u next
+      goes-by u rows (on v) q w = subst (λ (r : Reached). Here s before r.rows r.state next) (sym (left _ u rows (on v) w)) (here_on s before now t at h p next k e v q)
+      goes-by u rows (lists row v) q w = subst (λ (r : Reached). Here s before r.rows r.state next) (sym (left _ u rows (lists row v) w)) (here-lists s before now t at h p next k e row v q)
+      goes-by u rows (stop x) q w = absurd (never tt x (sym (answers _ u rows (stop x) w)))
+
+      stops-by : (x : PusError) (u : State) (rows : Rows) (m : Move) → m ≡ move_of (length before) t p → Moved (refuses (numbers_of x)) u rows m → told (record { state = u; rows = rows }) x
+      stops-by x u rows (on v) q w = absurd (never tt (numbers_of x) (answers _ u rows (on v) w))
+      stops-by x u rows (lists row v) q w = absurd (never tt (numbers_of x) (answers _ u rows (lists row v) w))
+      stops-by x u rows (stop y) q w =
+          let a : numbers_of x ≡ y = refuses-inj _ _ (answers _ u rows (stop y) w) in
+          let z = here-stop s before now t at h p next k e y q in
+          let l = here-left s before now t at h _ z.0 in
+          subst (λ (r : Reached). told r x) (sym (left _ u rows (stop y) w)) (record { answered = ap refuses a ∙ sym z.1; counted = l.0; left = l.1 })
+
+-- ---- the loop: it stands at `at`, where the step x was found
+
+pub begins : (s : List ℕ) (before : Rows) (t : State) (at : ℕ) → t ≡ begin → at ≡ 0 → Here s before before t at
+begins s before t at e z = subst (λ (n : ℕ). Here s before before t n) (sym z) (subst (λ (t : State). Here s before before t 0) (sym e) (here-begin s before))
+
+not-ended : (s : List ℕ) (at : ℕ) (p : Piece) (next : ℕ) → piece p next ≡ step_of s at → (at < next) × (next ≤ length s) × (at + length_of p ≤ length s)
+not-ended s at p next e =
     let q = step_is strict_of s at p next (sym e) in
     let m : next ≡ at + length_of p = q.1 in
     let l = q.0.long in
-    let i = q.0.inside in (omega arith, i, omega arith)
+    let i = q.0.inside in (omega arith, omega arith, i)
 
-turn_on : (s : List ℕ) (before now : Rows) (t : State) (at n : ℕ) (x : Next) (act : Act) (u : State) → Here s before now t at → at < length s → x ≡ step_of s at
-    → moved act u ≡ move_by (length before) t x → ((e : PusError) → act ≡ A.Stop e → ⊥) → Here s before (put_by act t.listed now) u (next_by x n)
-turn_on s before now t at n end act u h k e m z = absurd (let j = ended_is strict_of s at (sym e) in omega arith)
-turn_on s before now t at n (piece p next) A.On u h k e m z = here_on s before now t at h p next k (sym e) u m
-turn_on s before now t at n (piece p next) (A.List a b c) u h k e m z = here-lists s before now t at h p next k (sym e) (a ∷ b ∷ c ∷ []) u m
-turn_on s before now t at n (piece p next) (A.Stop r) u h k e m z = absurd (z r refl)
+module _ {s : List ℕ} {before now : Rows} {t : State} {at : ℕ} (h : Here s before now t at) where
+  pub fits : (x : Next) → x ≡ step_of s at → sum_of t.totals + length_by x ≤ length s
+  fits end e = let a = h.sums in let i = h.inside in omega arith
+  fits (piece p next) e = let a = h.sums in let i = not-ended s at p next e in omega (arith, i.2)
 
-turn-stop : (s : List ℕ) (before now : Rows) (t : State) (at : ℕ) (x : Next) (r : PusError) (u : State) → Here s before now t at → at < length s → x ≡ step_of s at
-    → moved (A.Stop r) u ≡ move_by (length before) t x
-    → ((gaps_of (length before) s).rows ≡ take t.listed now) × ((gaps_of (length before) s).answer ≡ refuses (numbers_of r))
-turn-stop s before now t at end r u h k e m = absurd (let j = ended_is strict_of s at (sym e) in omega arith)
-turn-stop s before now t at (piece p next) r u h k e m = here-stop s before now t at h p next k (sym e) (numbers_of r) m
+  -- a piece was found, and the walk goes on behind it
+  pub goes : (x : Next) → x ≡ step_of s at → (u : State) (rows : Rows) (next : Cursor) → Some next ≡ next_by x
+      → record { passed = gives tt; kept = record { state = u; rows = rows } } ≡ by_move (move_by (length now) t x) t now
+      → Here s before rows u next.at × ((at < next.at) × (next.at ≤ length s))
+  goes end e u rows next n w = absurd (none-some next (sym n))
+  goes (piece p to) e u rows next n w =
+      let a : next.at ≡ to = ap (λ (c : Cursor). c.at) (same_Some _ _ n) in
+      let i = not-ended s at p to e in (
+        subst (λ (n : ℕ). Here s before rows u n) (sym a) (goes-by s before now t at h p to (omega (arith, i)) (sym e) u rows _ (ap (λ (n : ℕ). move_of n t p) h.same) w),
+        (omega (arith, a, i), omega (arith, a, i)),
+      )
 
--- ---- the loop
+  -- or it ended the walk
+  pub stops : (x : Next) → x ≡ step_of s at → (r : PusError) (u : State) (rows : Rows)
+      → record { passed = refuses (numbers_of r); kept = record { state = u; rows = rows } } ≡ by_move (move_by (length now) t x) t now
+      → Listed s before (record { listed = u.listed; result = Err r }) rows
+  stops end e r u rows w = absurd (never tt (numbers_of r) (ap (λ (k : Kept Reached). k.passed) w))
+  stops (piece p to) e r u rows w =
+      let i = not-ended s at p to e in
+      stops-by s before now t at h p to (omega (arith, i)) (sym e) r u rows _ (ap (λ (n : ℕ). move_of n t p) h.same) w
 
--- where it stands: the list held `before`, and holds `now`
-pub record Stands (s : List ℕ) (before now : Rows) (scan : Scan) (at : ℕ) : Type 0 where
-  pub sound : Sound scan
-  pub here : Here s before now (state_of scan) at
-
-pub begins : (s : List ℕ) (before : Rows) (scan : Scan) → Sound scan → state_of scan ≡ begin → Stands s before before scan 0
-begins s before scan h e = record { sound = h; here = subst (λ (t : State). Here s before before t 0) (sym e) (here-begin s before) }
-
-pub ends : (s : List ℕ) (before now : Rows) (scan : Scan) (at : ℕ) → Stands s before now scan at → length s ≤ at
-    → Listed s before (record { listed = scan.listed; result = T.Ok scan.totals }) now
-ends s before now scan at h k =
-    let q = here_end s before now (state_of scan) at h.here k in
-    let w = here-left s before now (state_of scan) at h.here _ q.0 in record { answered = sym q.1; counted = w.0; left = w.1 }
-
--- a turn: the step from `at`, what it makes of the scan, and what the list holds then
-pub record Turned (s : List ℕ) (before now : Rows) (scan : Scan) (at : ℕ) (step : Step) (turn : Turn) (after : Rows) : Type 0 where
-  pub stands : Stands s before now scan at
-  pub inside : at < length s
-  pub stepped : step_answer step ≡ step_of s at
-  pub taken : turn_move turn ≡ move_by (length now) (state_of scan) (step_answer step)
-  pub put : after ≡ put_by turn.act scan.listed now
-
-module _ {s : List ℕ} {before now after : Rows} {scan : Scan} {at : ℕ} (step : Step) (turn : Turn) (k : Turned s before now scan at step turn after) where
-  here : Here s before now (state_of scan) at
-  here = k.stands.here
-
-  does : moved turn.act (state_of turn.scan) ≡ move_by (length before) (state_of scan) (step_answer step)
-  does = k.taken ∙ ap (λ (n : ℕ). move_by n (state_of scan) (step_answer step)) here.same
-
-  -- with a refusal the list is as it was
-  kept : (e : PusError) → turn.act ≡ A.Stop e → after ≡ now
-  kept e a = k.put ∙ ap (λ (x : Act). put_by x scan.listed now) a
-
-  pub kept-length : (e : PusError) → turn.act ≡ A.Stop e → length after ≡ length before
-  kept-length e a = ap length (kept e a) ∙ here.same
-
-  pub stops : (e : PusError) → turn.act ≡ A.Stop e → Listed s before (record { listed = scan.listed; result = T.Err e }) after
-  stops e a =
-      let q = turn-stop s before now (state_of scan) at (step_answer step) e (state_of turn.scan) here k.inside k.stepped
-      (ap (λ (x : Act). moved x (state_of turn.scan)) (sym a) ∙ does) in
-      let w = here-left s before now (state_of scan) at here _ q.0 in
-      record { answered = sym q.1; counted = w.0; left = kept e a ∙ w.1 }
-
-  -- and without one the loop goes on behind the piece
-  pub goes : (n next : ℕ) → ((r : PusError) → turn.act ≡ A.Stop r → ⊥) → Sound turn.scan → next ≡ next_by (step_answer step) n → Stands s before after turn.scan next
-  goes n next z h e =
-      let g = turn_on s before now (state_of scan) at n (step_answer step) turn.act (state_of turn.scan) here k.inside k.stepped does z in
-      record {
-        sound = h;
-        here = subst (λ (i : ℕ). Here s before after (state_of turn.scan) i) (sym e)
-            (subst (λ (r : Rows). Here s before r (state_of turn.scan) (next_by (step_answer step) n)) (sym k.put) g);
-      }
-
-  pub further : (n next : ℕ) → next ≡ next_by (step_answer step) n → (at < next) × (next ≤ length s)
-  further n next e = let i = step-on s at n (step_answer step) k.inside k.stepped in (omega (arith, e, i.0), omega (arith, e, i.2))
+  -- the capture has ended
+  pub ends : (x : Next) → x ≡ step_of s at → (u : State) (rows : Rows) → None ≡ next_by x
+      → record { passed = gives tt; kept = record { state = u; rows = rows } } ≡ by_move (move_by (length now) t x) t now
+      → Listed s before (record { listed = u.listed; result = Ok u.totals }) rows
+  ends (piece p next) e u rows n w = absurd (none-some _ n)
+  ends end e u rows n w =
+      let k = ended_is strict_of s at (sym e) in
+      subst (λ (r : Reached). Listed s before (record { listed = r.state.listed; result = Ok r.state.totals }) r.rows) (sym (ap (λ (k : Kept Reached). k.kept) w)) (ended s before now t at h k)

@@ -1,18 +1,14 @@
 -- Gaps in a recorded uplink: what a walk over the pieces of a capture lists, and how it ends.
-use Rattle.std.specs.Prelude.{ℕ, suc, ◌+◌, ◌%◌, ◌≤◌, List, [], ◌∷◌, ◌++◌, ◌≡◌, eqb, leb, length, get_or, set, take, drop}
-use Rattle.space_packet.specs.Answer.{Answer, Numbers, refusal, gives, refuses, numbers_of}
+use Rattle.std.specs.Prelude.{ℕ, suc, ◌+◌, ◌%◌, List, [], ◌∷◌, ◌++◌, ◌≡◌, eqb, leb, length, get_or, set, drop, Option, Some, None, Result, Ok, Err}
+use Rattle.space_packet.specs.Answer.{answer_of, Answer, Kept, Numbers, refusal, gives, refuses, numbers_of}
 use Rattle.space_packet.specs.Bits.{pick}
+use Rattle.space_packet.specs.declared.PusError.{PusError}
 use Rattle.tc_read.specs.declared.PusTcRecord.{PusTcRecord}
 use Rattle.tc_strict.specs.Split.{Piece, packet, tail, Next, end, piece, length_of, walk}
-use Rattle.gaps.specs.declared.Act.{Act}
-use Rattle.gaps.specs.declared.Act.TheVariants as A
+use Rattle.tc_strict.specs.declared.split.Cursor.{Cursor}
 use Rattle.gaps.specs.declared.Command.{Command}
 use Rattle.gaps.specs.declared.Listing.{Listing}
-use Rattle.gaps.specs.declared.Scan.{Scan}
 use Rattle.gaps.specs.declared.Totals.{Totals}
-use Rattle.gaps.specs.declared.TotalsResult.{TotalsResult}
-use Rattle.gaps.specs.declared.TotalsResult.TheVariants as T
-use Rattle.gaps.specs.declared.Turn.{Turn}
 
 -- a row is an APID, the count that was expected of it, and the one that was found
 abbrev pub Rows : Type 0
@@ -114,17 +110,29 @@ gaps_of places s = scan places begin (walk s)
 
 -- ---- the call
 
-abbrev pub totals_answer : TotalsResult → Answer Totals
-totals_answer (T.Ok t) = gives t
-totals_answer (T.Err e) = refuses (numbers_of e)
-
 -- what is answered for a capture, and what the list holds then: the rows, and behind them what it held before
 pub record Listed (capture : List ℕ) (before : Rows) (r : Listing) (after : Rows) : Type 0 where
-  pub answered : totals_answer r.result ≡ (gaps_of (length before) capture).answer
+  pub answered : answer_of r.result ≡ (gaps_of (length before) capture).answer
   pub counted : r.listed ≡ length (gaps_of (length before) capture).rows
   pub left : after ≡ (gaps_of (length before) capture).rows ++ drop (length (gaps_of (length before) capture).rows) before
 
 -- ---- one turn
+
+-- how far the walk has come, and what the list holds
+pub record Reached : Type 0 where
+  pub state : State
+  pub rows : Rows
+
+-- what a call that makes a move answers, whatever it gives, and leaves
+abbrev pub made : {A : Type 0} → Result A PusError → State → Rows → Kept Reached
+made (Ok a) s l = record { passed = gives tt; kept = record { state = s; rows = l } }
+made (Err e) s l = record { passed = refuses (numbers_of e); kept = record { state = s; rows = l } }
+
+-- a row goes behind those that are listed; where the move ends the walk all stays as it was
+abbrev pub by_move : Move → State → Rows → Kept Reached
+by_move (on t) s l = record { passed = gives tt; kept = record { state = t; rows = l } }
+by_move (lists row t) s l = record { passed = gives tt; kept = record { state = t; rows = set l s.listed row } }
+by_move (stop e) s l = record { passed = refuses e; kept = record { state = s; rows = l } }
 
 -- after a step, which may have found nothing
 abbrev pub move_by : ℕ → State → Next → Move
@@ -135,29 +143,10 @@ abbrev pub length_by : Next → ℕ
 length_by end = 0
 length_by (piece p next) = length_of p
 
-abbrev pub next_by : Next → ℕ → ℕ
-next_by end n = n
-next_by (piece p next) n = next
+-- where the next piece begins
+abbrev pub next_by : Next → Option Cursor
+next_by end = None
+next_by (piece p next) = Some (record { at = next })
 
 abbrev pub sum_of : Totals → ℕ
 sum_of t = t.accepted + t.refused + t.tail
-
-abbrev pub state_of : Scan → State
-state_of s = record { lasts = take s.n s.lasts; listed = s.listed; totals = s.totals }
-
--- there is room for 64 APIDs
-abbrev pub Sound : Scan → Type 0
-Sound s = (s.n ≤ 64) × (length s.lasts ≡ 64)
-
-abbrev pub moved : Act → State → Move
-moved A.On s = on s
-moved (A.List a e f) s = lists (a ∷ e ∷ f ∷ []) s
-moved (A.Stop e) s = stop (numbers_of e)
-
-abbrev pub put_by : Act → ℕ → Rows → Rows
-put_by A.On at l = l
-put_by (A.List a e f) at l = set l at (a ∷ e ∷ f ∷ [])
-put_by (A.Stop e) at l = l
-
-abbrev pub turn_move : Turn → Move
-turn_move t = moved t.act (state_of t.scan)

@@ -1,14 +1,14 @@
 // Gaps in a recorded uplink: the places of a capture where the sequence count of an APID does not follow its last.
-#![tactic(auto)]
+#![tactic(auto, unfolding(space_packet::specs::Answer::and_then, space_packet::specs::Answer::set_if, space_packet::specs::Answer::refuse_if, crate::specs::Records::gap_in))]
 
-ghost use Rattle.std.specs.Prelude.{◌≡◌, [], ◌∷◌, ◌+◌, ◌<◌, take, set};
-ghost use Rattle.space_packet.specs.Answer.{refusal, numbers_of};
+ghost use Rattle.std.specs.Prelude.{◌≡◌, [], ◌∷◌, ◌+◌, ◌^◌, ◌<◌, ◌≤◌, leb, length, take, IfOk, MatchOption};
+ghost use Rattle.space_packet.specs.Answer.{refusal, refuse_if, gives, set_if, numbers_of, answer_of, outcome};
 ghost use Rattle.tc_strict.specs.Split.{step_answer};
-ghost use Rattle.gaps.specs.Gaps.{place_of, after_count, with_accepted, with_refused, with_tail, command_move, begin, Listed, move_by, length_by, next_by, sum_of, state_of, Sound, put_by, turn_move};
-ghost use Rattle.gaps.specs.Records.{gap_of_row, gap_answer};
+ghost use Rattle.gaps.specs.Gaps.{State, place_of, after_count, noting, command_move, begin, Listed, sum_of, made, by_move, move_by, length_by, next_by};
+ghost use Rattle.gaps.specs.Records.{gap_of_row};
 
-use space_packet::{Apid, ApidResult, ByteConversionError, PusError, SeqCount, SeqCountResult};
-use tc_strict::Verdict;
+use space_packet::{Apid, ByteConversionError, MAX_APID, MAX_SEQ_COUNT, PusError, SeqCount};
+use std::marker::Model;
 use tc_strict::split::{Cursor, Step};
 
 // How many APIDs a capture may have.
@@ -24,64 +24,40 @@ fn max_apids() -> usize
 // ---- what is answered
 
 // The octets of accepted packets, of refused ones and of the tail.
-#[derive(Clone, Copy)]
+#[derive(Clone, Copy, PartialEq, Eq)]
 pub struct Totals {
     pub accepted: usize,
     pub refused: usize,
     pub tail: usize,
 }
 
-#[derive(Clone, Copy)]
-pub enum TotalsResult {
-    Ok(Totals),
-    Err(PusError),
-}
-
-// How many rows the list has been given, also where the walk was refused.
-#[derive(Clone, Copy)]
+// How many rows the list has been given, also where the walk was refused: so it stands beside the result and not in it.
+#[derive(Clone, Copy, PartialEq, Eq)]
 pub struct Listing {
     pub listed: usize,
-    pub result: TotalsResult,
+    pub result: Result<Totals, PusError>,
 }
 
-// A row of the list.
-#[derive(Clone, Copy)]
+// A row of the list as a record; the list itself holds three numbers, as `Rows` has it.
+#[derive(Clone, Copy, PartialEq, Eq)]
 pub struct Gap {
     pub apid: Apid,
     pub expected: SeqCount,
     pub found: SeqCount,
 }
 
-#[derive(Clone, Copy)]
-pub enum GapResult {
-    Ok(Gap),
-    Err(PusError),
-}
+impl TryFrom<[u16; 3]> for Gap {
+    type Error = PusError;
 
-impl Gap {
+    ghost try_from_gives = { λ row gap. answer_of gap ≡ gap_of_row row };
+
     // The record of a row: APID, the count that was expected, the one that was found.
-    pub fn from_row(row: [u16; 3]) -> GapResult
-        ensures { gap_answer result ≡ gap_of_row row }
-    {
-        let a = Apid::new(row[0]);
-        let e = SeqCount::new(row[1]);
-        let f = SeqCount::new(row[2]);
-        let apid = match a {
-            ApidResult::Ok(x) => x,
-            ApidResult::Err(error) => return GapResult::Err(error),
-        };
-        let expected = match e {
-            SeqCountResult::Ok(x) => x,
-            SeqCountResult::Err(error) => return GapResult::Err(error),
-        };
-        let found = match f {
-            SeqCountResult::Ok(x) => x,
-            SeqCountResult::Err(error) => return GapResult::Err(error),
-        };
-        GapResult::Ok(Gap {
-            apid,
-            expected,
-            found,
+    fn try_from(row: [u16; 3]) -> Result<Gap, PusError> {
+        let [apid, expected, found] = row;
+        Ok(Gap {
+            apid: Apid::new(apid)?,
+            expected: SeqCount::new(expected)?,
+            found: SeqCount::new(found)?,
         })
     }
 }
@@ -89,33 +65,27 @@ impl Gap {
 // ---- where a walk stands
 
 // A command: its APID and its sequence count. Public for the definitions that theorems of other crates cite.
-#[derive(Clone, Copy)]
+#[derive(Clone, Copy, PartialEq, Eq)]
 pub struct Command {
     apid: Apid,
     count: SeqCount,
 }
 
-// The last command of each of the first `n` APIDs, in the order in which they came first; how many gaps are listed; the totals.
-#[derive(Clone, Copy)]
+// The last command of each of the first `apids` APIDs, in the order in which they came first; how many gaps are listed; the totals.
+#[derive(Drop)]
 struct Scan {
     lasts: [Command; MAX_APIDS],
-    n: usize,
+    apids: usize,
     listed: usize,
     totals: Totals,
 }
 
-// What a piece asks for: nothing, a row of the list, or the end of the walk.
-#[derive(Clone, Copy)]
-enum Act {
-    On,
-    List(u16, u16, u16),
-    Stop(PusError),
-}
+impl Model for Scan {
+    ghost Value = { State };
 
-#[derive(Clone, Copy)]
-struct Turn {
-    scan: Scan,
-    act: Act,
+    ghost view = { λ s. record { lasts = take s.apids s.lasts; listed = s.listed; totals = s.totals } };
+
+    ghost invariant = { λ s. s.apids ≤ 64 };
 }
 
 // One more than a count, modulo 16,384.
@@ -127,7 +97,7 @@ fn after(count: SeqCount) -> u16
 
 // 1: a list of so many places has none for one more.
 fn no_place(places: usize) -> PusError
-    requires { places + 1 < 18446744073709551616 }
+    requires { places + 1 < 2 ^ 64 }
     ensures { numbers_of result ≡ refusal 1 (places ∷ (places + 1) ∷ []) }
 {
     PusError::ByteConversion(ByteConversionError::ToSliceTooSmall {
@@ -138,222 +108,120 @@ fn no_place(places: usize) -> PusError
 
 impl Scan {
     fn new() -> Scan
-        ensures result_value { state_of result ≡ begin }
-        ensures sound { Sound result }
+        ensures { result ≡ begin }
     {
-        let c = Command {
-            apid: space_packet::MAX_APID,
-            count: space_packet::MAX_SEQ_COUNT,
-        };
-        let t = Totals {
-            accepted: 0,
-            refused: 0,
-            tail: 0,
-        };
         Scan {
-            lasts: [c; MAX_APIDS],
-            n: 0,
+            lasts: [Command {
+                apid: MAX_APID,
+                count: MAX_SEQ_COUNT,
+            }; MAX_APIDS],
+            apids: 0,
             listed: 0,
-            totals: t,
+            totals: Totals {
+                accepted: 0,
+                refused: 0,
+                tail: 0,
+            },
         }
     }
 
-    // Where an APID stands; behind the last, where it has not come yet.
-    fn place(self, apid: u16) -> usize
-        requires { Sound self }
-        ensures { result ≡ place_of (take self.n self.lasts) apid }
+    // Where an APID stands; none, where it has not come yet.
+    fn place(&self, apid: Apid) -> Option<usize>
+        ensures { MatchOption result (place_of self.now.lasts apid.0 ≡ length self.now.lasts) (λ p. (p ≡ place_of self.now.lasts apid.0) × (p < length self.now.lasts)) }
     {
-        let lasts = self.lasts;
-        let n = self.n;
-        let mut i: usize = 0;
-        while i < n {
-            let l = lasts[i];
-            let a = l.apid;
-            if a.value() == apid {
-                return i;
+        self.lasts[..self.apids]
+            .iter()
+            .position(|last| last.apid == apid)
+    }
+
+    // The first command of an APID.
+    fn start(&mut self, command: Command, total: usize) -> Result<(), PusError>
+        requires { self.old.totals.accepted + total < 2 ^ 64 }
+        ensures { outcome result self.new ≡ set_if (refuse_if (leb 64 (length self.old.lasts)) (refusal 31 []) (gives tt)) self.old (noting self.old (length self.old.lasts) command self.old.listed total) }
+    {
+        if self.apids == MAX_APIDS {
+            return Err(PusError::TooManyApids);
+        }
+        self.lasts[self.apids] = command;
+        self.apids += 1;
+        self.totals.accepted += total;
+        Ok(())
+    }
+
+    // An accepted command of `total` octets; its gap, where there is one, is listed.
+    fn accept(
+        &mut self,
+        command: Command,
+        total: usize,
+        list: &mut [[u16; 3]],
+    ) -> Result<(), PusError>
+        requires { self.old.totals.accepted + total < 2 ^ 64 }
+        ensures { made result self.new list.new ≡ by_move (command_move (length list.old) self.old total command) self.old list.old }
+    {
+        let Some(place) = self.place(command.apid) else {
+            return self.start(command, total);
+        };
+        let expected = after(self.lasts[place].count);
+        let found = command.count.value();
+        if found != expected {
+            if self.listed >= list.len() {
+                return Err(no_place(list.len()));
             }
-            i += 1;
+            list[self.listed] = [command.apid.value(), expected, found];
+            self.listed += 1;
         }
-        i
+        self.lasts[place] = command;
+        self.totals.accepted += total;
+        Ok(())
     }
 
-    // The scan with a count noted at a place, among n APIDs, and an accepted packet's octets.
-    fn noting(self, p: usize, command: Command, n: usize, listed: usize, total: usize) -> Scan
-        requires { (p < 64) × (self.totals.accepted + total < 18446744073709551616) }
-        ensures { result ≡ record { lasts = set self.lasts p command; n = n; listed = listed; totals = with_accepted self.totals total } }
-    {
-        let mut lasts = self.lasts;
-        lasts[p] = command;
-        let t = self.totals;
-        let totals = Totals {
-            accepted: t.accepted + total,
-            refused: t.refused,
-            tail: t.tail,
-        };
-        Scan {
-            lasts,
-            n,
-            listed,
-            totals,
-        }
-    }
-
-    // An accepted command of some octets.
-    fn accept(self, total: usize, command: Command, places: usize) -> Turn
-        requires { Sound self × (self.totals.accepted + total < 18446744073709551616) × (places + 1 < 18446744073709551616) }
-        ensures result_value { turn_move result ≡ command_move places (state_of self) total command }
-        ensures sound { Sound result.scan }
-    {
-        let n = self.n;
-        let listed = self.listed;
-        let a = command.apid;
-        let apid = a.value();
-        let p = self.place(apid);
-        if n <= p {
-            if MAX_APIDS <= p {
-                return Turn {
-                    scan: self,
-                    act: Act::Stop(PusError::TooManyApids),
-                };
-            }
-            return Turn {
-                scan: self.noting(p, command, n + 1, listed, total),
-                act: Act::On,
-            };
-        }
-        let lasts = self.lasts;
-        let last = lasts[p];
-        let expected = after(last.count);
-        let c = command.count;
-        let found = c.value();
-        if found == expected {
-            return Turn {
-                scan: self.noting(p, command, n, listed, total),
-                act: Act::On,
-            };
-        }
-        if places <= listed {
-            return Turn {
-                scan: self,
-                act: Act::Stop(no_place(places)),
-            };
-        }
-        Turn {
-            scan: self.noting(p, command, n, listed + 1, total),
-            act: Act::List(apid, expected, found),
-        }
-    }
-
-    // The scan with a refused packet's octets.
-    fn refuse(self, total: usize) -> Scan
-        requires { self.totals.refused + total < 18446744073709551616 }
-        ensures { result ≡ record { lasts = self.lasts; n = self.n; listed = self.listed; totals = with_refused self.totals total } }
-    {
-        let t = self.totals;
-        let totals = Totals {
-            accepted: t.accepted,
-            refused: t.refused + total,
-            tail: t.tail,
-        };
-        let mut next = self;
-        next.totals = totals;
-        next
-    }
-
-    // The scan with the tail's octets.
-    fn end(self, len: usize) -> Scan
-        requires { self.totals.tail + len < 18446744073709551616 }
-        ensures { result ≡ record { lasts = self.lasts; n = self.n; listed = self.listed; totals = with_tail self.totals len } }
-    {
-        let t = self.totals;
-        let totals = Totals {
-            accepted: t.accepted,
-            refused: t.refused,
-            tail: t.tail + len,
-        };
-        let mut next = self;
-        next.totals = totals;
-        next
-    }
-
-    // The piece that a step found.
-    fn take(self, step: Step, places: usize) -> Turn
-        requires { Sound self × (sum_of self.totals + length_by (step_answer step) < 18446744073709551616) × (places + 1 < 18446744073709551616) }
-        ensures result_value { turn_move result ≡ move_by places (state_of self) (step_answer step) }
-        ensures sound { Sound result.scan }
+    // Takes the piece that a step found, and says where the next one begins; none, where the capture has ended.
+    fn take(&mut self, step: Step, list: &mut [[u16; 3]]) -> Result<Option<Cursor>, PusError>
+        requires { sum_of self.old.totals + length_by (step_answer step) < 2 ^ 64 }
+        ensures moved { made result self.new list.new ≡ by_move (move_by (length list.old) self.old (step_answer step)) self.old list.old }
+        ensures next { IfOk result (λ next. next ≡ next_by (step_answer step)) }
     {
         match step {
-            Step::End => Turn {
-                scan: self,
-                act: Act::On,
-            },
-            Step::Tail {
-                at: _,
-                len,
-                next: _,
-            } => Turn {
-                scan: self.end(len),
-                act: Act::On,
-            },
             Step::Packet {
-                at: _,
                 total,
                 verdict,
-                next: _,
-            } => match verdict {
-                Verdict::Refused(_) => Turn {
-                    scan: self.refuse(total),
-                    act: Act::On,
-                },
-                Verdict::Accepted(record) => {
-                    let command = Command {
-                        apid: record.apid(),
-                        count: record.seq_count(),
-                    };
-                    self.accept(total, command, places)
+                next,
+                ..
+            } => {
+                match verdict {
+                    Ok(record) => {
+                        let command = Command {
+                            apid: record.sp_header.apid(),
+                            count: record.sp_header.seq_count(),
+                        };
+                        self.accept(command, total, list)?;
+                    }
+                    Err(_) => self.totals.refused += total,
                 }
-            },
+                Ok(Some(next))
+            }
+            Step::Tail { len, next, .. } => {
+                self.totals.tail += len;
+                Ok(Some(next))
+            }
+            Step::End => Ok(None),
         }
+    }
+
+    // Walks a capture from its beginning.
+    fn walk(&mut self, capture: &[u8], list: &mut [[u16; 3]]) -> Result<Totals, PusError>
+        requires { self.old ≡ begin }
+        ensures { Listed capture.now list.old (record { listed = self.new.listed; result = result }) list.new }
+    {
+        let mut cursor = Cursor::new();
+        while let Some(next) = self.take(cursor.step(capture), list)? {
+            cursor = next;
+        }
+        Ok(self.totals)
     }
 }
 
 // ---- the walk
-
-// Lists a gap, where there is one. `accept` lists none without a place; the test stands in for a `requires`.
-fn put(list: &mut [[u16; 3]], at: usize, act: Act)
-    ensures { list.new ≡ put_by act at list.old }
-{
-    match act {
-        Act::List(apid, expected, found) => {
-            if at < list.len() {
-                let row = [apid, expected, found];
-                list[at] = row;
-            }
-        }
-        Act::On => {}
-        Act::Stop(_) => {}
-    }
-}
-
-// Where the next piece begins.
-fn next_of(step: Step, end: usize) -> usize
-    ensures { result ≡ next_by (step_answer step) end }
-{
-    match step {
-        Step::Packet {
-            at: _,
-            total: _,
-            verdict: _,
-            next,
-        } => next.at,
-        Step::Tail {
-            at: _,
-            len: _,
-            next,
-        } => next.at,
-        Step::End => end,
-    }
-}
 
 // Walks a capture of PUS C with no spare octets, and lists from the list's beginning on each place where an accepted command's count
 // is not one more than the last of its APID. 31, at the first accepted command of a 65th APID; 1, at a gap that the list has no
@@ -361,27 +229,10 @@ fn next_of(step: Step, end: usize) -> usize
 pub fn list_gaps(capture: &[u8], list: &mut [[u16; 3]]) -> Listing
     ensures { Listed capture.now list.old result list.new }
 {
-    let mut s = Scan::new();
-    let mut at: usize = 0;
-    while at < capture.len() {
-        let here = Cursor { at };
-        let step = here.step(capture);
-        let turn = s.take(step, list.len());
-        let act = turn.act;
-        let k = s.listed;
-        put(list, k, act);
-        if let Act::Stop(e) = act {
-            return Listing {
-                listed: k,
-                result: TotalsResult::Err(e),
-            };
-        }
-        at = next_of(step, capture.len());
-        s = turn.scan;
-    }
-    let t = s.totals;
+    let mut scan = Scan::new();
+    let result = scan.walk(capture, list);
     Listing {
-        listed: s.listed,
-        result: TotalsResult::Ok(t),
+        listed: scan.listed,
+        result,
     }
 }

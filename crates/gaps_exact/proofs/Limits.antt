@@ -10,7 +10,7 @@ use borrow.Author.Tests.{leb-true}
 use Rattle.space_packet.specs.Answer.{Numbers, refusal, gives, refuses}
 use Rattle.space_packet.specs.Fields.{id_of, psc_of}
 use Rattle.space_packet.specs.Header.{read_header}
-use Rattle.space_packet.proofs.Answers.{gives-inj, refuses-inj, never, then-gives, range-passes}
+use Rattle.space_packet.proofs.Answers.{gives-inj, refuses-inj, never, then-gives, gives_then, range-passes}
 use Rattle.ecss.specs.Frame.{frame_of, checked_of, stated_of}
 use Rattle.ecss.specs.Kind.{judge}
 use Rattle.ecss.proofs.Frames.{frame-total}
@@ -24,10 +24,9 @@ use Rattle.tc_strict.proofs.Pieces.{Judged}
 use Rattle.tc_strict.proofs.Verdicts.{strict-c}
 use Rattle.tc_strict.proofs.Walks.{octets_in, Each, walk-octets, walk-judged}
 use Rattle.gaps.specs.Gaps.{place_of, expected_at, State, Move, on, lists, stop, command_of, noting, command_move, move_of, Outcome, followed, scan, begin, gaps_of}
-use Rattle.gaps.specs.Records.{gap_of_row, gap_from}
+use Rattle.gaps.specs.Records.{gap_in, gap_of_row, gap_from}
 use Rattle.gaps.specs.declared.Command.{Command}
 use Rattle.gaps.proofs.Moves.{either}
-use Rattle.gaps.proofs.Records.{all-within}
 use Rattle.gaps_exact.specs.History.{RowWithin, AllRows}
 
 -- ---- accepted packets
@@ -148,9 +147,11 @@ only-31 s e h = (few-in 5041 s).only (let l = walk-octets strict_of s in omega (
 
 -- and so each makes a record, of just its three numbers
 pub row-record : (row : List ℕ) → RowWithin row → gap_of_row row ≡ gives (gap_from (get_or row 0 0) (get_or row 1 0) (get_or row 2 0))
+unfolding gap_in
 row-record row w =
     let a = w.0 in
     let e = w.1 in
     let f = w.2 in
-    sym (all-within (get_or row 0 0) (get_or row 1 0) (get_or row 2 0) ((range-passes 2 2047 (get_or row 0 0)).1 (omega (arith, a))) ((range-passes 3 16383 (get_or row 1 0)).1 (omega (arith, e)))
-    _ _ _ ((range-passes 3 16383 (get_or row 2 0)).1 (omega (arith, f))) refl refl refl)
+    gives_then _ _ tt ((range-passes 2 2047 (get_or row 0 0)).1 (omega (arith, a)))
+    ∙ gives_then _ _ tt ((range-passes 3 16383 (get_or row 1 0)).1 (omega (arith, e)))
+    ∙ gives_then _ _ tt ((range-passes 3 16383 (get_or row 2 0)).1 (omega (arith, f)))

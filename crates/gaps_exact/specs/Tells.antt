@@ -1,8 +1,8 @@
 -- What the call tells of a capture, by the capture alone.
 use Rattle.std.specs.Prelude.{ℕ, ◌+◌, ◌≤◌, ◌≡◌, List, [], ◌++◌, length, drop}
-use Rattle.space_packet.specs.Answer.{Numbers, gives, refuses}
+use Rattle.space_packet.specs.Answer.{answer_of, Numbers, gives, refuses}
 use Rattle.tc_strict.specs.Split.{walk}
-use Rattle.gaps.specs.Gaps.{Rows, command_of, begin, totals_answer}
+use Rattle.gaps.specs.Gaps.{Rows, command_of, begin}
 use Rattle.gaps.specs.declared.Listing.{Listing}
 use Rattle.gaps.specs.declared.Totals.{Totals}
 use Rattle.gaps_exact.specs.History.{commands_of, totals_of, gaps_behind, new_behind, gaps_in, apids_in, Reason, RefusedAt}
@@ -28,5 +28,5 @@ pub record RefusedFor (capture : List ℕ) (before : Rows) (r : Listing) (after 
   pub left : after ≡ gaps_behind [] (commands_of at.before) ++ drop (length (gaps_behind [] (commands_of at.before))) before
 
 pub record Tells (capture : List ℕ) (before : Rows) (r : Listing) (after : Rows) : Type 0 where
-  pub unrefused : (t : Totals) → totals_answer r.result ≡ gives t → ListsAll capture before r after t
-  pub refused : (e : Numbers) → totals_answer r.result ≡ refuses e → RefusedFor capture before r after e
+  pub unrefused : (t : Totals) → answer_of r.result ≡ gives t → ListsAll capture before r after t
+  pub refused : (e : Numbers) → answer_of r.result ≡ refuses e → RefusedFor capture before r after e

@@ -1,16 +1,14 @@
 -- What a program prints of its input, and how it stands in a buffer.
-use Rattle.std.specs.Prelude.{ℕ, ◌≤◌, ◌≡◌, List, ◌++◌, Option, length, take}
+use Rattle.std.specs.Prelude.{ℕ, ◌≤◌, ◌≡◌, List, ◌++◌, Option, Ok, Err, length, take}
 use Rattle.std.specs.Io.KnownBytes.{Appends}
 use Rattle.text.specs.Ascii.{ascii}
 use Rattle.text.specs.Page.{page, at_start}
-use Rattle.input.specs.Reading.{Within}
-use Rattle.input.specs.declared.Input.{Input}
-use Rattle.input.specs.declared.Input.TheVariants.{Octets, Failed}
+use Rattle.input.specs.Reading.{Input, Within}
 
 -- its report of the octets that were read, or behind its first line that they cannot be read
 unfoldable pub printed_by : List ℕ → (List ℕ → List ℕ) → Input → List ℕ → List ℕ
-printed_by first report (Octets n) l = report (take n l)
-printed_by first report Failed l = first ++ ascii "cannot be read\n"
+printed_by first report (Ok n) l = report (take n l)
+printed_by first report (Err e) l = first ++ ascii "cannot be read\n"
 
 -- what putting a report t, for which `room` octets suffice, at the start of the buffer `before` answers and leaves
 pub record Rendered (room : ℕ) (t before : List ℕ) (n : ℕ) (after : List ℕ) : Type 0 where

@@ -1,18 +1,16 @@
 -- What the calls answer, case by case.
 use Prim.Native.Nat.{ℕ, zero, suc, ◌+◌, ◌*◌, ◌^◌, ◌≤◌, ◌<◌}
 use mathlib.Core.Path.{◌≡◌, refl, sym, ap, ◌∙◌, subst}
-use mathlib.Core.Bool.{Bool, true, false}
 use mathlib.Core.List.{List, [], ◌∷◌, ◌++◌}
 use native.Mathlib.Omega.{arith}
-use lib.Dec.{ltb, lit<}
+use lib.Dec.{lit<}
 use lib.ListN.{length, take}
-use borrow.Author.Tests.{eq-eqb, eqb-false, lt-ltb, le-ltb, ltb-true, ltb-false}
-use Rattle.space_packet.specs.Answer.{Answer, Numbers, refusal, gives, refuses, ◌then◌, in_buffer, numbers_of}
-use Rattle.space_packet.specs.Wrote.{Wrote}
+use borrow.Author.Tests.{eqb-false, le-ltb, ltb-false}
+use Rattle.std.specs.Prelude.{Result}
 use Rattle.space_packet.specs.declared.PusError.{PusError}
-use Rattle.space_packet.specs.declared.SizeResult.{SizeResult}
-use Rattle.space_packet.specs.declared.SizeResult.TheVariants as S
-use Rattle.space_packet.proofs.Answers.{gives-inj, never, refuse-no, refuse-yes, refuse-gives, then-gives, gives_then, refuses-then, left-refused}
+use Rattle.space_packet.specs.Answer.{Answer, gives, in_buffer, and_then}
+use Rattle.space_packet.specs.Wrote.{Wrote}
+use Rattle.space_packet.proofs.Answers.{gives-inj, refuse-no, refuse-gives, then-gives, gives_then}
 use Rattle.param_value.specs.declared.Value.{Value}
 use Rattle.param_value.specs.Octets.{Octets, number_from, number_of, octets_of, size_in, given_by}
 use Rattle.param_value.specs.Values.{octets_for, value_of, pattern_of, read_value, value_octets}
@@ -40,22 +38,14 @@ octets-snoc : (l : List ℕ) (o : ℕ) → length (l ++ (o ∷ [])) ≡ suc (len
 octets-snoc [] o = refl
 octets-snoc (x ∷ l) o = ap suc (octets-snoc l o)
 
-pub octets-length : (k v : ℕ) → length (octets_of k v) ≡ k
+pub octets_length : (k v : ℕ) → length (octets_of k v) ≡ k
 unfolding octets_of
-octets-length zero v = refl
-octets-length (suc k) v = octets-snoc (octets_of k _) _ ∙ ap suc (octets-length k _)
+octets_length zero v = refl
+octets_length (suc k) v = octets-snoc (octets_of k _) _ ∙ ap suc (octets_length k _)
 
 -- ---- reading
 
 module _ (ptc pfc : ℕ) (s : List ℕ) where
-  pub read_none : octets_for ptc pfc ≡ 0 → read_value ptc pfc s ≡ refuses (refusal 21 [])
-  unfolding read_value
-  read_none z = refuse-yes _ _ _ (eq-eqb (octets_for ptc pfc) 0 z)
-
-  pub read_short : 1 ≤ octets_for ptc pfc → length s < octets_for ptc pfc → read_value ptc pfc s ≡ refuses (refusal 2 (length s ∷ octets_for ptc pfc ∷ []))
-  unfolding read_value
-  read_short n h = refuse-no _ _ _ (some-octets ptc pfc n) ∙ refuse-yes _ _ _ (lt-ltb (length s) (octets_for ptc pfc) h)
-
   pub read-gives : 1 ≤ octets_for ptc pfc → octets_for ptc pfc ≤ length s → read_value ptc pfc s ≡ gives (value_of ptc pfc (number_of (take (octets_for ptc pfc) s)))
   unfolding read_value
   read-gives n h = refuse-no _ _ _ (some-octets ptc pfc n) ∙ refuse-no _ _ _ (le-ltb (length s) (octets_for ptc pfc) h)
@@ -73,19 +63,7 @@ read_is ptc pfc s v e =
     let z = eqb-false (octets_for ptc pfc) 0 p.0 in
     record { named = omega (arith, z); fits = ltb-false _ _ q.0; is = gives-inj _ v q.1 }
 
--- of a type that is named, only too few octets are refused
-pub read-refused : (ptc pfc : ℕ) (s : List ℕ) (e : Numbers) → 1 ≤ octets_for ptc pfc → read_value ptc pfc s ≡ refuses e → length s < octets_for ptc pfc
-read-refused ptc pfc s e n p = by-test (ltb (length s) (octets_for ptc pfc)) refl
-  where
-    by-test : (b : Bool) → ltb (length s) (octets_for ptc pfc) ≡ b → length s < octets_for ptc pfc
-    by-test true t = ltb-true (length s) (octets_for ptc pfc) t
-    by-test false t = absurd (never _ e (sym p ∙ read-gives ptc pfc s n (ltb-false (length s) (octets_for ptc pfc) t)))
-
 -- ---- writing
-
-pub octets-refused : (ptc pfc : ℕ) (v : Value) (e : Numbers) → pattern_of ptc pfc v ≡ refuses e → value_octets ptc pfc v ≡ refuses e
-unfolding value_octets
-octets-refused ptc pfc v e p = refuses-then _ _ e p
 
 pub octets-given : (ptc pfc : ℕ) (v : Value) (n : ℕ) → pattern_of ptc pfc v ≡ gives n → value_octets ptc pfc v ≡ gives (octets_of (octets_for ptc pfc) n)
 unfolding value_octets
@@ -101,22 +79,7 @@ unfolding value_octets
 octets-are ptc pfc v l e =
     let t = then-gives (pattern_of ptc pfc v) _ l e in record { number = t.0; pattern = t.1; is = gives-inj _ l t.2 }
 
--- a write of octets that an answer gives, or that it refuses
-pub wrote-refused : (a : Answer (List ℕ)) (e : PusError) (before : List ℕ) → a ≡ refuses (numbers_of e) → Wrote (size_in a (length before)) (given_by a) before (S.Err e) before
-unfolding size_in
-wrote-refused a e before p =
-    let q = refuses-then a (λ l. in_buffer (length before) (length l)) (numbers_of e) p in
-    record { answered = sym q; left = sym (left-refused _ (given_by a) before (numbers_of e) q) }
-
-pub wrote-given : (a : Answer (List ℕ)) (l before : List ℕ) (r : SizeResult) (after : List ℕ) → a ≡ gives l → Wrote (in_buffer (length before) (length l)) l before r after
+pub wrote-given : (a : Answer (List ℕ)) (l before : List ℕ) (r : Result ℕ PusError) (after : List ℕ) → a ≡ gives l → Wrote (in_buffer (length before) (length l)) l before r after
     → Wrote (size_in a (length before)) (given_by a) before r after
-unfolding size_in ◌then◌
+unfolding size_in and_then
 wrote-given a l before r after p w = subst (λ (x : Answer (List ℕ)). Wrote (size_in x (length before)) (given_by x) before r after) (sym p) w
-
--- the same by the octets that the code computed
-pub wrote-sized : (a : Answer (List ℕ)) (k n j : ℕ) (before : List ℕ) (r : SizeResult) (after : List ℕ) → a ≡ gives (octets_of j n) → k ≡ j
-    → Wrote (in_buffer (length before) k) (octets_of k n) before r after → Wrote (size_in a (length before)) (given_by a) before r after
-wrote-sized a k n j before r after p e w =
-    let l : k ≡ length (octets_of k n) = sym (octets-length k n) in
-    wrote-given a (octets_of k n) before r after (p ∙ ap (λ (i : ℕ). gives (octets_of i n)) (sym e))
-    (subst (λ (i : ℕ). Wrote (in_buffer (length before) i) (octets_of k n) before r after) l w)

@@ -8,4 +8,3 @@ pub mod Inverse
 pub mod Calls
 pub mod RoundTrip
 pub mod Bits
-pub mod Determined

@@ -1,12 +1,18 @@
 -- Octets and their number invert each other.
-use Prim.Native.Nat.{ℕ, zero, suc, ◌+◌, ◌*◌, ◌/◌, ◌%◌, ◌^◌, ◌<◌}
+use Prim.Native.Nat.{ℕ, zero, suc, ◌+◌, ◌-◌, ◌*◌, ◌/◌, ◌%◌, ◌^◌, ◌≤◌, ◌<◌}
 use mathlib.Core.Path.{◌≡◌, refl, sym, ap, ap₂, ◌∙◌}
 use mathlib.Core.List.{List, [], ◌∷◌, ◌++◌, append-nil}
 use native.Mathlib.Omega.{arith}
-use lib.ListN.{length, get_or, take, drop, set}
-use lib.Seq.{append_snoc, drop-cons, drop-length, set_split, drop_at, length-take-le}
+use lib.ListN.{length, drop}
+use lib.Seq.{append_snoc}
 use Rattle.param_value.specs.Octets.{Octets, number_from, number_of, octets_of}
-use Rattle.param_value.proofs.Powers.{grows}
+use lib.Bits.{bit_or}
+use Rattle.std.specs.List.{fold}
+use mir.Syntax.{w64}
+use Rattle.std.specs.Int.{byte_at, bytes_high_first, to_be_bytes}
+use Rattle.std.proofs.Math.Nat.{pow-succ', div-div-eq-div-mul}
+use Rattle.std.proofs.lemmas.Nat.{or_shifted}
+use Rattle.param_value.proofs.Powers.{grows, seven}
 
 -- one more octet behind
 pub number-snoc : (a : ℕ) (s : List ℕ) (o : ℕ) → number_from a (s ++ (o ∷ [])) ≡ number_from a s * 256 + o
@@ -40,30 +46,43 @@ pub octets-back : (s : List ℕ) → Octets s → octets_of (length s) (number_o
 unfolding octets_of
 octets-back s o = octets-from s 0 0 (length s) (omega arith) o
 
--- ---- the loops
-
-pub read_step : (n i : ℕ) (s : List ℕ) → i < length s → number_from n (drop i s) ≡ number_from (n * 256 + get_or s i 0) (drop (suc i) s)
-unfolding number_from
-read_step n i s h = ap (number_from n) (drop-cons s i 0 h)
-
-pub read-end : (n i : ℕ) (s : List ℕ) → i ≡ length s → number_from n (drop i s) ≡ n
-unfolding number_from
-read-end n i s e = ap (λ (k : ℕ). number_from n (drop k s)) e ∙ ap (number_from n) (drop-length s)
+-- ---- as the machine reads and writes them
 
 pub read_fits : (n i o : ℕ) → n < 256 ^ i → o < 256 → n * 256 + o < 256 ^ suc i
 read_fits n i o h k = let e = grows i in omega arith
 
-pub write-begin : (v : ℕ) (p : List ℕ) → octets_of (length p) v ++ drop (length p) p ≡ octets_of (length p) v
-write-begin v p = ap (λ (l : List ℕ). octets_of (length p) v ++ l) (drop-length p) ∙ append-nil _
+-- one octet behind those that are read, by a shift
+abbrev pub behind : ℕ → ℕ → ℕ
+behind n o = bit_or (n * 2 ^ 8 % 2 ^ 64) o
 
-pub write_step : (i j v : ℕ) (p : List ℕ) → i ≡ suc j → j < length p → octets_of j (v / 256) ++ drop j (set p j (v % 256)) ≡ octets_of i v ++ drop i p
-unfolding octets_of
-write_step i j v p e h =
-    ap (λ (l : List ℕ). octets_of j (v / 256) ++ drop j l) (set_split p j (v % 256) h)
-    ∙ ap (λ (l : List ℕ). octets_of j (v / 256) ++ l) (drop_at (take j p) (v % 256 ∷ drop (suc j) p) j (length-take-le j p (omega arith)))
-    ∙ sym (append_snoc (octets_of j (v / 256)) (v % 256) (drop (suc j) p))
-    ∙ ap (λ (k : ℕ). octets_of k v ++ drop k p) (sym e)
+pub fold_behind : (s : List ℕ) (a j : ℕ) → length s + j ≤ 8 → Octets s → a < 256 ^ j → fold behind a s ≡ number_from a s
+unfolding number_from
+fold_behind [] a j e o h = refl
+fold_behind (x ∷ s) a j e o h =
+    let p : a < 72057594037927936 = (let k = seven j (omega arith) in omega (arith, k, h)) in
+    let q : a * 2 ^ 8 % 2 ^ 64 ≡ a * 2 ^ 8 = omega arith in
+    let r : behind a x ≡ a * 256 + x = ap (λ (n : ℕ). bit_or n x) q ∙ or_shifted a 8 x (o 0) in
+    ap (λ (n : ℕ). fold behind n s) r ∙ fold_behind s (a * 256 + x) (suc j) (omega arith) (λ i. o (suc i)) (read_fits a j x h (o 0))
 
-pub write-end : (i v : ℕ) (p : List ℕ) → i ≡ 0 → octets_of i v ++ drop i p ≡ p
+-- the machine's bytes are the octets
+byte-above : (k v : ℕ) → byte_at (suc k) v ≡ byte_at k (v / 256)
+byte-above zero v = refl
+byte-above (suc k) v = ap (λ (n : ℕ). v / n % 256) (pow-succ' 256 (suc k)) ∙ ap (λ (n : ℕ). n % 256) (sym (div-div-eq-div-mul v 256 (256 ^ suc k)))
+
+bytes-snoc : (k v : ℕ) → bytes_high_first (suc k) v ≡ bytes_high_first k (v / 256) ++ (v % 256 ∷ [])
+bytes-snoc zero v = refl
+bytes-snoc (suc k) v = ap₂ (λ (o : ℕ) (l : List ℕ). o ∷ l) (byte-above k v) (bytes-snoc k v)
+
+bytes-octets : (k v : ℕ) → bytes_high_first k v ≡ octets_of k v
 unfolding octets_of
-write-end i v p e = ap (λ (k : ℕ). octets_of k v ++ drop k p) e
+bytes-octets zero v = refl
+bytes-octets (suc k) v = bytes-snoc k v ∙ ap (λ (l : List ℕ). l ++ (v % 256 ∷ [])) (bytes-octets k (v / 256))
+
+last-bytes : (j k n v : ℕ) → n ≡ j + k → drop j (bytes_high_first n v) ≡ bytes_high_first k v
+last-bytes zero k n v e = ap (λ (i : ℕ). bytes_high_first i v) (let z : n ≡ k = omega (arith, e) in z)
+last-bytes (suc j) k zero v e = absurd (omega (arith, e))
+last-bytes (suc j) k (suc n) v e = last-bytes j k n v (omega (arith, e))
+
+-- the last k of the machine's eight bytes
+pub last_octets : (k v : ℕ) → k ≤ 8 → drop (8 - k) (to_be_bytes w64 v) ≡ octets_of k v
+last_octets k v h = last-bytes (8 - k) k 8 v (omega arith) ∙ bytes-octets k v

@@ -1,22 +1,10 @@
--- Floats: a NaN is what differs from itself, and a pattern that is no NaN's is kept.
+-- Floats: a pattern that is no NaN's is kept.
 use Prim.Native.Nat.{ℕ, ◌*◌, ◌<◌}
-use mathlib.Core.Path.{◌≡◌, refl, sym, ap, ◌∙◌, subst}
-use mathlib.Core.Bool.{Bool, true, false, not}
+use mathlib.Core.Path.{◌≡◌, sym, ap, ◌∙◌, subst}
+use mathlib.Core.Bool.{Bool, false, not}
 use lib.Dec.{T}
-use lib.Ieee.{Float, nan, inf, fin, Format, top, ne, is_nan, fits, of_bits, to_bits, nan_bits}
-use lib.Ieee.Compare.{nan_differs, differs_from_itself}
+use lib.Ieee.{Float, Format, top, is_nan, fits, of_bits, to_bits, nan_bits}
 use lib.Ieee.Bits.{of_bits-to_bits, to_bits-of_bits, nan_bits_is}
-
-no_nan : (x : Float) → ne x x ≡ false → is_nan x ≡ false
-unfolding is_nan
-no_nan nan e = sym nan_differs ∙ e
-no_nan (inf s) e = refl
-no_nan (fin s m k) e = refl
-
-pub differs : (x : Float) (b : Bool) → ne x x ≡ b → is_nan x ≡ b
-unfolding is_nan
-differs x true e = ap is_nan (differs_from_itself x (subst T (sym e) tt))
-differs x false e = no_nan x e
 
 pub not_yet : (b : Bool) → b ≡ false → T (not b)
 not_yet b e = subst (λ (x : Bool). T (not x)) (sym e) tt

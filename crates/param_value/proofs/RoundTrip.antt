@@ -11,7 +11,7 @@ use Rattle.param_value.specs.Octets.{Octets, number_of, octets_of}
 use Rattle.param_value.specs.Values.{Held, octets_for, value_of, pattern_of, read_value, value_octets}
 use Rattle.param_value.proofs.Numbers.{number-back, octets-back}
 use Rattle.param_value.proofs.Inverse.{value-back, value-again}
-use Rattle.param_value.proofs.Calls.{octets-take, number_lt, octets-length, read_is, read-gives, octets-given, octets-are}
+use Rattle.param_value.proofs.Calls.{octets-take, number_lt, octets_length, read_is, read-gives, octets-given, octets-are}
 use Rattle.param_value.proofs.Types.{pattern-is}
 
 -- what is read is written as it stood
@@ -28,7 +28,7 @@ read-write ptc pfc s v o e =
 -- what is written is of the length of its type
 pub written-length : (ptc pfc : ℕ) (v : Value) (l : List ℕ) → value_octets ptc pfc v ≡ gives l → length l ≡ octets_for ptc pfc
 written-length ptc pfc v l e =
-    let r = octets-are ptc pfc v l e in ap length (sym r.is) ∙ octets-length (octets_for ptc pfc) r.number
+    let r = octets-are ptc pfc v l e in ap length (sym r.is) ∙ octets_length (octets_for ptc pfc) r.number
 
 -- and is read again, whatever stands behind it
 pub write_read : (ptc pfc : ℕ) (v : Value) (l rest : List ℕ) → Held v → value_octets ptc pfc v ≡ gives l → read_value ptc pfc (l ++ rest) ≡ gives v

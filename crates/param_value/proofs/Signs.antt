@@ -2,18 +2,16 @@
 use Prim.Native.Nat.{ℕ, suc, ◌-◌, ◌/◌, ◌^◌, ◌≤◌, ◌<◌}
 use mathlib.Core.Path.{◌≡◌, refl, sym, ap, ◌∙◌}
 use mathlib.Core.Bool.{Bool, true, false, not}
-use mathlib.Core.List.{[]}
 use native.Mathlib.Omega.{arith}
 use lib.Dec.{ltb}
 use lib.IntN.{ℤ, pos, negsuc}
-use lib.Signed.{lt_z}
 use mir.Syntax.{w64}
-use mir.Val.{to_z, of_z, SFits}
-use mir.ValLaws.{to_z_pos, to_z-neg, to_z-of_z}
+use mir.Val.{to_z}
+use mir.ValLaws.{to_z_pos, to_z-neg}
 use borrow.Author.Tests.{lt-ltb, le-ltb, ltb-true, ltb-false, not-false}
 use Rattle.space_packet.specs.Bits.{pick}
-use Rattle.space_packet.specs.Answer.{refusal, gives, refuses}
-use Rattle.space_packet.proofs.Answers.{refuse-no, refuse-yes, refuse-gives, gives-inj}
+use Rattle.space_packet.specs.Answer.{gives}
+use Rattle.space_packet.proofs.Answers.{refuse-no, refuse-gives, gives-inj}
 use Rattle.param_value.specs.Values.{signed_of, signed_bits}
 use Rattle.param_value.proofs.Powers.{some, even, eight}
 
@@ -29,8 +27,8 @@ signed_high k n h = ap (λ (b : Bool). pick b (pos n) (negsuc (256 ^ k - suc n))
 
 -- ---- as the machine computes it
 
-pub low-is : (k n : ℕ) → 1 ≤ k → k ≤ 8 → n ≤ (256 ^ k - 1) / 2 → to_z w64 n ≡ signed_of k n
-low-is k n a b h =
+pub low_is : (k n : ℕ) → 1 ≤ k → k ≤ 8 → n ≤ (256 ^ k - 1) / 2 → to_z w64 n ≡ signed_of k n
+low_is k n a b h =
     let e = even k a in
     let m = eight k b in
     let s = some k in
@@ -45,34 +43,6 @@ high_is k n a b l h =
     let p : 256 ^ k - suc n < 9223372036854775808 = omega arith in
     ap (to_z w64) j ∙ to_z-neg w64 (256 ^ k - suc n) p ∙ sym (signed_high k n (omega arith))
 
--- ---- a number's sign, and its complement
-
-pub record Below (z : ℤ) : Type 0 where
-  pub m : ℕ
-  pub is : z ≡ negsuc m
-  pub flipped : to_z w64 (18446744073709551615 - of_z w64 z) ≡ pos m
-  pub small : m < 9223372036854775808
-
-pub below : (z : ℤ) → SFits w64 z → lt_z z (pos 0) ≡ true → Below z
-below (pos n) f e = absurd (let h = ltb-true n 0 e in omega arith)
-below (negsuc m) f e =
-    let h : m < 9223372036854775808 = f.sfits in
-    let j : 18446744073709551615 - (18446744073709551616 - suc m) ≡ m = omega arith in
-    record { m = m; is = refl; flipped = ap (to_z w64) j ∙ to_z_pos w64 m h; small = h }
-
-pub below_by : (z : ℤ) → SFits w64 z → lt_z (to_z w64 (of_z w64 z)) (pos 0) ≡ true → Below z
-below_by z f e = below z f (ap (λ (x : ℤ). lt_z x (pos 0)) (sym (to_z-of_z w64 z f)) ∙ e)
-
-pub record Above (z : ℤ) : Type 0 where
-  pub n : ℕ
-  pub is : z ≡ pos n
-  pub same : to_z w64 (of_z w64 z) ≡ pos n
-  pub small : n < 9223372036854775808
-
-pub above-by : (z : ℤ) → SFits w64 z → lt_z (to_z w64 (of_z w64 z)) (pos 0) ≡ false → Above z
-above-by (pos n) f e = record { n = n; is = refl; same = to_z-of_z w64 (pos n) f; small = f.sfits }
-above-by (negsuc m) f e = absurd (let z : ◌≡◌ {A = ℕ} 0 1 = (let t : true ≡ false = ap (λ (x : ℤ). lt_z x (pos 0)) (sym (to_z-of_z w64 (negsuc m) f)) ∙ e in cc) in omega arith)
-
 -- ---- and back: what is within the width gives its pattern
 
 pub back_low : (k n : ℕ) → n < 256 ^ k / 2 → signed_bits k (pos n) ≡ gives n
@@ -82,14 +52,6 @@ back_low k n h = refuse-no _ _ _ (ap not (lt-ltb n (256 ^ k / 2) h))
 pub back-high : (k m : ℕ) → m < 256 ^ k / 2 → signed_bits k (negsuc m) ≡ gives (256 ^ k - suc m)
 unfolding signed_bits
 back-high k m h = refuse-no _ _ _ (ap not (lt-ltb m (256 ^ k / 2) h))
-
-pub over-low : (k n : ℕ) → 256 ^ k / 2 ≤ n → signed_bits k (pos n) ≡ refuses (refusal 24 [])
-unfolding signed_bits
-over-low k n h = refuse-yes _ _ _ (ap not (le-ltb n (256 ^ k / 2) h))
-
-pub over-high : (k m : ℕ) → 256 ^ k / 2 ≤ m → signed_bits k (negsuc m) ≡ refuses (refusal 24 [])
-unfolding signed_bits
-over-high k m h = refuse-yes _ _ _ (ap not (le-ltb m (256 ^ k / 2) h))
 
 -- ---- read and write invert each other
 
@@ -121,11 +83,3 @@ signed-again k (negsuc m) n a e =
     let d = even k a in
     let i : 256 ^ k - suc (256 ^ k - suc m) ≡ m = omega arith in
     (omega arith, ap (signed_of k) (sym j) ∙ signed_high k (256 ^ k - suc m) (omega arith) ∙ ap negsuc i)
-
--- ---- the tests against half of the largest
-
-pub half_over : (k m : ℕ) → 1 ≤ k → (256 ^ k - 1) / 2 < m → 256 ^ k / 2 ≤ m
-half_over k m a h = let e = even k a in let s = some k in omega arith
-
-pub half-under : (k m : ℕ) → 1 ≤ k → m ≤ (256 ^ k - 1) / 2 → m < 256 ^ k / 2
-half-under k m a h = let e = even k a in let s = some k in omega arith

@@ -7,7 +7,7 @@ use native.Mathlib.Omega.{arith}
 use lib.Dec.{eqb, lit≤}
 use borrow.Author.Tests.{eq-eqb, ne_eqb, eqb-true, eqb-false, not-false}
 use Rattle.space_packet.specs.Bits.{pick}
-use Rattle.space_packet.specs.Answer.{Answer, refusal, gives, refuses}
+use Rattle.space_packet.specs.Answer.{refusal, gives, refuses}
 use Rattle.space_packet.proofs.Answers.{refuse-no, refuse-yes, refuse-gives}
 use Rattle.param_value.specs.declared.Value.{Value}
 use Rattle.param_value.specs.declared.Value.TheVariants.{Unsigned, Signed}
@@ -25,9 +25,9 @@ int_le pfc =
 real-le : (pfc : ℕ) → real_octets pfc ≤ 8
 real-le pfc = within (eqb pfc 1) 4 _ (lit≤ tt) (within (eqb pfc 2) 8 0 (lit≤ tt) (lit≤ tt))
 
-pub octets-le : (ptc pfc : ℕ) → octets_for ptc pfc ≤ 8
+pub octets_le : (ptc pfc : ℕ) → octets_for ptc pfc ≤ 8
 unfolding octets_for
-octets-le ptc pfc =
+octets_le ptc pfc =
     within (eqb ptc 3) _ _ (int_le pfc) (within (eqb ptc 4) _ _ (int_le pfc) (within (eqb ptc 5) _ 0 (real-le pfc) (lit≤ tt)))
 
 -- a named type that is no integer is a real
@@ -70,14 +70,7 @@ real-single pfc n e = ap (λ (t : Bool). pick t (single_of n) (double_of n)) (eq
 pub real-double : (pfc n : ℕ) → (pfc ≡ 1 → ⊥) → real_of pfc n ≡ double_of n
 real-double pfc n e = ap (λ (t : Bool). pick t (single_of n) (double_of n)) (ne_eqb pfc 1 e)
 
-pub single-octets : (pfc : ℕ) → pfc ≡ 1 → real_octets pfc ≡ 4
-single-octets pfc e = ap real_octets e
-
 -- ---- the patterns
-
-pub pattern-none : (ptc pfc : ℕ) (v : Value) → octets_for ptc pfc ≡ 0 → pattern_of ptc pfc v ≡ refuses (refusal 21 [])
-unfolding pattern_of
-pattern-none ptc pfc v e = refuse-yes _ _ _ (eq-eqb _ 0 e)
 
 pub pattern-other : (ptc pfc : ℕ) (v : Value) → 1 ≤ octets_for ptc pfc → kind_is ptc pfc v ≡ false → pattern_of ptc pfc v ≡ refuses (refusal 24 [])
 unfolding pattern_of
@@ -99,11 +92,3 @@ pattern-is ptc pfc v n e =
     let q = refuse-gives _ _ _ n p.1 in
     let z = eqb-false (octets_for ptc pfc) 0 p.0 in
     record { named = omega (arith, z); kind = not-false _ q.0; bits = q.1 }
-
--- by the bits of the value's case
-pub pattern-by : (ptc pfc : ℕ) (v w : Value) (a : Answer ℕ) → 1 ≤ octets_for ptc pfc → kind_is ptc pfc v ≡ true → v ≡ w → a ≡ bits_in (octets_for ptc pfc) w → a ≡ pattern_of ptc pfc v
-pattern-by ptc pfc v w a h k e b = b ∙ sym (pattern-known ptc pfc v h k ∙ ap (bits_in (octets_for ptc pfc)) e)
-
--- the octets that the code computed are some
-pub named_by : (k ptc pfc : ℕ) → k ≡ octets_for ptc pfc → (k ≡ 0 → ⊥) → 1 ≤ octets_for ptc pfc
-named_by k ptc pfc e z = omega (arith, e, z)

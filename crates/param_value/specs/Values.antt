@@ -3,13 +3,9 @@ use Rattle.std.specs.Prelude.{ℕ, suc, ◌-◌, ◌/◌, ◌^◌, ◌<◌, Bool
 use Rattle.std.specs.Float.{binary32, binary64}
 use Rattle.std.specs.Float.Ieee.{of_bits, to_bits, nan_bits, is_nan, fits}
 use Rattle.space_packet.specs.Bits.{pick}
-use Rattle.space_packet.specs.Answer.{Answer, gives, refuses, refusal, refuse_if, ◌then◌, numbers_of}
+use Rattle.space_packet.specs.Answer.{Answer, gives, refusal, refuse_if, ◌then◌}
 use Rattle.param_value.specs.declared.Value.{Value}
 use Rattle.param_value.specs.declared.Value.TheVariants.{Unsigned, Signed, Single, SingleNan, Double, DoubleNan}
-use Rattle.param_value.specs.declared.ValueResult.{ValueResult}
-use Rattle.param_value.specs.declared.ValueResult.TheVariants as VR
-use Rattle.param_value.specs.declared.PatternResult.{PatternResult}
-use Rattle.param_value.specs.declared.PatternResult.TheVariants as PR
 use Rattle.param_value.specs.Octets.{number_of, octets_of, size_in}
 
 -- the octets of an integer: PFC 4, 12, 13, 14, 15, 16; 0 where no type is named here
@@ -27,11 +23,6 @@ octets_for ptc pfc = pick (eqb ptc 3) (int_octets pfc) (pick (eqb ptc 4) (int_oc
 -- two's complement of k octets
 unfoldable pub signed_of : ℕ → ℕ → ℤ
 signed_of k n = pick (ltb n (256 ^ k / 2)) (pos n) (negsuc (256 ^ k - suc n))
-
--- how far it is from zero
-abbrev pub unsigned_abs : ℤ → ℕ
-unsigned_abs (pos n) = n
-unsigned_abs (negsuc n) = suc n
 
 unfoldable pub signed_bits : ℕ → ℤ → Answer ℕ
 signed_bits k (pos n) = refuse_if (not (ltb n (256 ^ k / 2))) (refusal 24 []) (gives n)
@@ -116,13 +107,3 @@ Held (Single x) = T (fits binary32 x)
 Held (SingleNan b) = b < 4294967296
 Held (Double x) = T (fits binary64 x)
 Held (DoubleNan b) = b < 18446744073709551616
-
--- ---- the answers of this crate's calls
-
-abbrev pub value_answer : ValueResult → Answer Value
-value_answer (VR.Ok v) = gives v
-value_answer (VR.Err e) = refuses (numbers_of e)
-
-abbrev pub pattern_answer : PatternResult → Answer ℕ
-pattern_answer (PR.Ok n) = gives n
-pattern_answer (PR.Err e) = refuses (numbers_of e)

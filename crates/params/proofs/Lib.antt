@@ -1,4 +1,3 @@
 pub mod Lists
 pub mod ReadLaws
 pub mod WriteLaws
-pub mod Determined

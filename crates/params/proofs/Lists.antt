@@ -1,49 +1,66 @@
 -- Laws of the list of parameters: its check row by row, and its search.
 use Prim.Native.Nat.{ℕ, zero, suc, ◌+◌, ◌≤◌, ◌<◌}
-use mathlib.Core.Path.{◌≡◌, refl, sym, ap, ◌∙◌}
+use mathlib.Core.Path.{◌≡◌, refl, sym, ap, ap₂, ◌∙◌}
 use mathlib.Core.Bool.{Bool, true, false, not, ◌&&◌, ◌||◌, and-eq-true_iff}
 use mathlib.Core.List.{List, [], ◌∷◌}
 use native.Mathlib.Omega.{arith}
-use native.Mathlib.Numerals.{add-one}
-use lib.ListN.{length, drop, get_or}
-use lib.Seq.{drop-cons, drop-length}
+use lib.ListN.{length, get_or}
 use lib.Dec.{eqb, ltb}
-use borrow.Author.Tests.{eq-eqb, ne_eqb, not-false}
+use borrow.Author.Tests.{ne_eqb, not-false}
+use Rattle.std.specs.Prelude.{Option, Some, None, is_some, cond}
+use Rattle.std.specs.List.{find, IsAllAdjacentAnswer, list_all}
 use Rattle.space_packet.specs.Bits.{pick}
 use Rattle.space_packet.specs.Answer.{gives}
 use Rattle.space_packet.proofs.Answers.{refuse-gives}
 use Rattle.param_value.specs.Values.{octets_for}
-use Rattle.params.specs.Parameters.{Row, id_of, octets_by, below, row_good, list_good, list_check, known, row_of}
+use Rattle.params.specs.Parameters.{Row, id_of, octets_by, below, row_good, list_good, list_check, known, row_of, row_in}
 
--- ---- the check
+-- ---- the check, as the code makes it: all types are named, and each ID is below the next
 
-pub below_next : (r : Row) (l : List Row) (i : ℕ) (d : Row) → i < length l → below r (drop i l) ≡ ltb (id_of r) (id_of (get_or l i d))
-below_next r l i d h = ap (below r) (drop-cons l i d h)
+abbrev pub named : Row → Bool
+named r = not (eqb (octets_by r) 0)
 
-pub below_last : (r : Row) (l : List Row) (i : ℕ) → length l ≤ i → below r (drop i l) ≡ true
-below_last r l zero h = by-list l h
+abbrev pub lower : Row → Row → Bool
+lower r q = ltb (id_of r) (id_of q)
+
+abbrev pub rises : List Row → Bool
+rises [] = true
+rises (r ∷ l) = below r l && rises l
+
+four : (a b c d : Bool) → ((a && b) && (c && d)) ≡ ((a && c) && (b && d))
+four true true c d = refl
+four true false true d = refl
+four true false false d = refl
+four false b c d = refl
+
+pub good-is : (l : List Row) → list_good l ≡ (list_all named l && rises l)
+unfolding list_good
+good-is [] = refl
+good-is (r ∷ l) = ap (λ (b : Bool). row_good r l && b) (good-is l) ∙ four (named r) (below r l) (list_all named l) (rises l)
+
+next-lower : (b : Bool) (r : Row) (l : List Row) (k : ℕ) (d : Row) → b ≡ lower (get_or (r ∷ l) (suc k) d) (get_or (r ∷ l) (suc k + 1) d) → b ≡ lower (get_or l k d) (get_or l (k + 1) d)
+next-lower b r l k d e = let n : suc k + 1 ≡ suc (k + 1) = omega arith in e ∙ ap (λ (i : ℕ). lower (get_or l k d) (get_or (r ∷ l) i d)) n
+
+rising : (l : List Row) → ((k : ℕ) (d : Row) → k + 1 < length l → true ≡ lower (get_or l k d) (get_or l (k + 1) d)) → rises l ≡ true
+rising [] h = refl
+rising (r ∷ []) h = refl
+rising (r ∷ q ∷ l) h =
+    ap₂ (λ (a b : Bool). a && b) (sym (h 0 r (omega arith))) (rising (q ∷ l) (λ k d p. next-lower true r (q ∷ l) k d (h (suc k) d (omega (arith, p)))))
+
+falling : (l : List Row) (k : ℕ) → k + 1 < length l → ((d : Row) → false ≡ lower (get_or l k d) (get_or l (k + 1) d)) → rises l ≡ false
+falling [] k p e = absurd (omega arith)
+falling (r ∷ []) k p e = absurd (omega arith)
+falling (r ∷ q ∷ l) zero p e = ap (λ (b : Bool). b && rises (q ∷ l)) (sym (e r))
+falling (r ∷ q ∷ l) (suc k) p e =
+    ap (λ (b : Bool). lower r q && b) (falling (q ∷ l) k (omega (arith, p)) (λ d. next-lower false r (q ∷ l) k d (e d))) ∙ and-false (lower r q)
   where
-    by-list : (l : List Row) → length l ≤ 0 → below r l ≡ true
-    by-list [] h = refl
-    by-list (q ∷ l) h = absurd (omega arith)
-below_last r [] (suc i) h = refl
-below_last r (q ∷ l) (suc i) h = below_last r l i (omega arith)
+    and-false : (b : Bool) → (b && false) ≡ false
+    and-false true = refl
+    and-false false = refl
 
-good-at : (l : List Row) (i : ℕ) (d : Row) → i < length l → list_good (drop i l) ≡ (row_good (get_or l i d) (drop (suc i) l) && list_good (drop (suc i) l))
-unfolding list_good
-good-at l i d h = ap list_good (drop-cons l i d h)
-
-pub good-on : (l : List Row) (i : ℕ) (d : Row) → i < length l → row_good (get_or l i d) (drop (suc i) l) ≡ true → list_good (drop (i + 1) l) ≡ list_good (drop i l)
-good-on l i d h g =
-    ap (λ (j : ℕ). list_good (drop j l)) (add-one i)
-    ∙ sym (good-at l i d h ∙ ap (λ (b : Bool). b && list_good (drop (suc i) l)) g)
-
-pub good-not : (l : List Row) (i : ℕ) (d : Row) → i < length l → row_good (get_or l i d) (drop (suc i) l) ≡ false → list_good (drop i l) ≡ false
-good-not l i d h g = good-at l i d h ∙ ap (λ (b : Bool). b && list_good (drop (suc i) l)) g
-
-pub good-end : (l : List Row) (i : ℕ) → i ≡ length l → list_good (drop i l) ≡ true
-unfolding list_good
-good-end l i e = ap (λ (j : ℕ). list_good (drop j l)) e ∙ ap list_good (drop-length l)
+pub rises-by : (b : Bool) (l : List Row) → IsAllAdjacentAnswer (λ r q a. a ≡ lower r q) l b → b ≡ rises l
+rises-by true l h = sym (rising l h)
+rises-by false l h = sym (falling l h.0 h.1 h.2)
 
 -- the check passes just a good list
 pub good-by : (l : List Row) → list_check l ≡ gives tt → list_good l ≡ true
@@ -52,21 +69,42 @@ good-by l e = not-false _ (refuse-gives _ _ _ tt e).0
 
 -- ---- the search
 
-row_at : (l : List Row) (i id : ℕ) (d : Row) → i < length l → row_of (drop i l) id ≡ pick (eqb (id_of (get_or l i d)) id) (get_or l i d) (row_of (drop (suc i) l) id)
-unfolding row_of
-row_at l i id d h = ap (λ (x : List Row). row_of x id) (drop-cons l i d h)
+pub find-row : (l : List Row) (id : ℕ) → find (λ r. eqb (id_of r) id) l ≡ row_in l id
+unfolding known row_of
+find-row [] id = refl
+find-row (r ∷ l) id = by-test (eqb (id_of r) id) (find-row l id)
+  where
+    by-test : (b : Bool) → find (λ q. eqb (id_of q) id) l ≡ row_in l id
+        → cond b (Some r) (find (λ q. eqb (id_of q) id) l) ≡ pick (b || known l id) (Some (pick b r (row_of l id))) None
+    by-test true e = refl
+    by-test false e = e
 
-pub row_here : (l : List Row) (i id : ℕ) (d : Row) → i < length l → id_of (get_or l i d) ≡ id → row_of (drop i l) id ≡ get_or l i d
-row_here l i id d h e = row_at l i id d h ∙ ap (λ (b : Bool). pick b (get_or l i d) (row_of (drop (suc i) l) id)) (eq-eqb (id_of (get_or l i d)) id e)
+pub is_some-row : (l : List Row) (id : ℕ) → is_some (row_in l id) ≡ known l id
+is_some-row l id = by-test (known l id)
+  where
+    by-test : (b : Bool) → is_some (pick b (Some (row_of l id)) None) ≡ b
+    by-test true = refl
+    by-test false = refl
 
-pub row_on : (l : List Row) (i id : ℕ) (d : Row) → i < length l → (id_of (get_or l i d) ≡ id → ⊥) → row_of (drop (i + 1) l) id ≡ row_of (drop i l) id
-row_on l i id d h e =
-    ap (λ (j : ℕ). row_of (drop j l) id) (add-one i)
-    ∙ sym (row_at l i id d h ∙ ap (λ (b : Bool). pick b (get_or l i d) (row_of (drop (suc i) l) id)) (ne_eqb (id_of (get_or l i d)) id e))
+pub row-is : (l : List Row) (id : ℕ) → known l id ≡ true → row_in l id ≡ Some (row_of l id)
+row-is l id e = ap (λ (b : Bool). pick b (Some (row_of l id)) None) e
 
-pub row-end : (l : List Row) (i id : ℕ) → i ≡ length l → row_of (drop i l) id ≡ 0 ∷ 0 ∷ 0 ∷ []
-unfolding row_of
-row-end l i id e = ap (λ (j : ℕ). row_of (drop j l) id) e ∙ ap (λ (x : List Row). row_of x id) (drop-length l)
+pub found-row : (l : List Row) (id : ℕ) (o : Option Row) (r : Row) → o ≡ row_in l id → o ≡ Some r → r ≡ row_of l id
+found-row l id o r e p = by-test (known l id) (sym e ∙ p)
+  where
+    by-test : (b : Bool) → pick b (Some (row_of l id)) None ≡ Some r → r ≡ row_of l id
+    by-test true q = cc
+    by-test false q = cc
+
+-- an ID is known where its row has a type that is named
+pub known-named : (l : List Row) (id : ℕ) → 1 ≤ octets_by (row_of l id) → known l id ≡ true
+unfolding known row_of octets_for
+known-named [] id h = absurd (omega arith)
+known-named (r ∷ l) id h = by-test (eqb (id_of r) id) (known-named l id) h
+  where
+    by-test : (b : Bool) → (1 ≤ octets_by (row_of l id) → known l id ≡ true) → 1 ≤ octets_by (pick b r (row_of l id)) → (b || known l id) ≡ true
+    by-test true k h = refl
+    by-test false k h = k h
 
 -- ---- of a good list, an ID is known exactly where its row has a type that is named
 
@@ -78,9 +116,6 @@ known_by (r ∷ l) id g = let p = (and-eq-true_iff _ _).0 g in by-test (eqb (id_
     by-test : (b : Bool) → not (eqb (octets_by r) 0) ≡ true → known l id ≡ not (eqb (octets_by (row_of l id)) 0) → (b || known l id) ≡ not (eqb (octets_by (pick b r (row_of l id))) 0)
     by-test true h k = sym h
     by-test false h k = k
-
-pub known-not : (l : List Row) (id : ℕ) → list_good l ≡ true → octets_by (row_of l id) ≡ 0 → known l id ≡ false
-known-not l id g e = known_by l id g ∙ ap not (eq-eqb (octets_by (row_of l id)) 0 e)
 
 pub known_some : (l : List Row) (id : ℕ) → list_good l ≡ true → (octets_by (row_of l id) ≡ 0 → ⊥) → known l id ≡ true
 known_some l id g e = known_by l id g ∙ ap not (ne_eqb (octets_by (row_of l id)) 0 e)

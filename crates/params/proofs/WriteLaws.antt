@@ -1,58 +1,51 @@
 -- What writing answers of pairs, one after the other, and what it leaves in the buffer.
-use Prim.Native.Nat.{ℕ, suc, ◌+◌, ◌-◌, ◌*◌, ◌/◌, ◌%◌, ◌≤◌, ◌<◌}
-use mathlib.Core.Path.{◌≡◌, refl, sym, ap, ap₂, ◌∙◌, subst}
-use mathlib.Core.Bool.{Bool, true, false, not, ◌&&◌}
+use Prim.Native.Nat.{ℕ, suc, ◌+◌, ◌-◌, ◌*◌, ◌≤◌, ◌<◌}
+use mathlib.Core.Path.{◌≡◌, refl, sym, ap, ap₂, ◌∙◌}
+use mathlib.Core.Bool.{Bool, true, not, ◌&&◌, and-eq-true_iff}
 use mathlib.Core.List.{List, [], ◌∷◌, ◌++◌, append-nil, append_assoc}
 use native.Mathlib.Omega.{arith}
 use native.Mathlib.Numerals.{add-one}
-use lib.ListN.{length, take, drop, get_or, set, length-append, length-drop, length-take, length-set, take-append-drop}
-use lib.Seq.{drop-cons, drop-length, get_or-take, drop-drop, take_at, drop_at}
-use borrow.Author.Tests.{lt-ltb, le-ltb, ltb-false, not-false}
+use lib.ListN.{length, take, drop, get_or, set, drop_of_length-le, length-append, length-drop, length-take, take-append-drop}
+use lib.Seq.{drop-cons, drop-length, drop-drop, take_at, drop_at}
+use borrow.Author.Tests.{le-ltb, ltb-false, not-false}
 use borrow.Rule.Slice.PartMut.{put_mid}
-use Rattle.space_packet.specs.Bits.{be16}
-use Rattle.space_packet.specs.Answer.{Answer, Numbers, gives, refuses, refusal, ◌then◌, in_buffer, numbers_of, size_answer}
-use Rattle.space_packet.specs.Wrote.{Wrote}
-use Rattle.space_packet.specs.declared.ByteConversionError.TheVariants.{ToSliceTooSmall}
+use Rattle.std.specs.Prelude.{Result, Ok, is_some}
+use Rattle.std.specs.List.{list_all}
+use Rattle.space_packet.specs.Answer.{Answer, Numbers, gives, refuses, ◌then◌, in_buffer, and_then}
 use Rattle.space_packet.specs.declared.PusError.{PusError}
-use Rattle.space_packet.specs.declared.PusError.TheVariants.{ByteConversion}
-use Rattle.space_packet.specs.declared.SizeResult.{SizeResult}
-use Rattle.space_packet.specs.declared.SizeResult.TheVariants as S
-use Rattle.space_packet.proofs.Answers.{gives-inj, refuses-inj, never, refuse-no, refuse-yes, refuse-gives, gives_then, refuses-then, then-gives, left-refused, left-written, no_room, has_room}
-use Rattle.param_value.specs.Octets.{octets_of, size_in, given_by}
-use Rattle.param_value.specs.Values.{pattern_of, value_octets}
-use Rattle.param_value.proofs.Types.{octets-le}
-use Rattle.param_value.proofs.Calls.{octets-refused, octets-given, wrote-refused, wrote-given}
+use Rattle.space_packet.specs.Bits.{be16}
+use Rattle.space_packet.specs.Wrote.{Wrote}
+use Rattle.space_packet.proofs.Determined.{answer-inj}
+use Rattle.space_packet.proofs.Answers.{gives-inj, never, refuse-no, refuse-gives, gives_then, refuses-then, then-gives, left-written, has_room}
+use Rattle.param_value.specs.Octets.{size_in, given_by}
+use Rattle.param_value.specs.Values.{value_octets}
+use Rattle.param_value.proofs.Types.{octets_le, pattern-is}
+use Rattle.param_value.proofs.Calls.{octets-are, wrote-given}
 use Rattle.param_value.proofs.RoundTrip.{written-length}
-use Rattle.params.specs.Parameters.{Row, ptc_of, pfc_of, list_check, known, row_of}
+use Rattle.params.specs.Parameters.{Row, ptc_of, pfc_of, list_check, known, row_of, row_in}
 use Rattle.params.specs.Request.{octets_in, ids_known, pair_octets, pairs_octets, request_octets, length_of}
 use Rattle.params.specs.Places.{HasRoom}
 use Rattle.params.specs.declared.Pair.{Pair}
-use Rattle.params.proofs.ReadLaws.{tail-is}
+use Rattle.params.proofs.Lists.{is_some-row, known-named}
+use Rattle.params.proofs.ReadLaws.{tail_is}
 
--- ---- the first n of the places
+-- the pair that a loop has reached, and those behind it
+pub pair-at : (ps : List Pair) (i : ℕ) (d : Pair) → i < length ps → drop i ps ≡ get_or ps i d ∷ drop (i + 1) ps
+pair-at ps i d h = drop-cons ps i d h ∙ ap (λ (j : ℕ). get_or ps i d ∷ drop j ps) (sym (add-one i))
 
-module _ (ps : List Pair) (n i : ℕ) (k : n ≡ length (take n ps)) where
-  pub pair-at : (d : Pair) → i < n → drop i (take n ps) ≡ get_or ps i d ∷ drop (i + 1) (take n ps)
-  pair-at d h =
-      drop-cons (take n ps) i d (omega arith)
-      ∙ ap₂ (λ (p : Pair) (j : ℕ). p ∷ drop j (take n ps)) (get_or-take n ps i d h) (sym (add-one i))
-
-  pub no_more : n ≤ i → i ≤ n → drop i (take n ps) ≡ []
-  no_more h g = let e : i ≡ length (take n ps) = omega arith in ap (λ (j : ℕ). drop j (take n ps)) e ∙ drop-length (take n ps)
+pub no_more : (ps : List Pair) (i : ℕ) → length ps ≤ i → drop i ps ≡ []
+no_more ps i h = drop_of_length-le ps {i = i} h
 
 -- ---- the IDs
 
-pub ids-known : (l : List Row) (p : Pair) (ps qs : List Pair) → qs ≡ p ∷ ps → known l p.id ≡ true → ids_known l ps ≡ ids_known l qs
+pub ids-all : (l : List Row) (ps : List Pair) → list_all (λ (p : Pair). is_some (row_in l p.id)) ps ≡ ids_known l ps
 unfolding ids_known
-ids-known l p ps qs e h = sym (ap (ids_known l) e ∙ ap (λ (b : Bool). b && ids_known l ps) h)
+ids-all l [] = refl
+ids-all l (p ∷ ps) = ap₂ (λ (a b : Bool). a && b) (is_some-row l p.id) (ids-all l ps)
 
-pub ids-unknown : (l : List Row) (p : Pair) (ps qs : List Pair) → qs ≡ p ∷ ps → known l p.id ≡ false → ids_known l qs ≡ false
+pub ids-next : (l : List Row) (p : Pair) (ps qs : List Pair) → qs ≡ p ∷ ps → ids_known l qs ≡ true → (known l p.id ≡ true) × (ids_known l ps ≡ true)
 unfolding ids_known
-ids-unknown l p ps qs e h = ap (ids_known l) e ∙ ap (λ (b : Bool). b && ids_known l ps) h
-
-pub ids-end : (l : List Row) (qs : List Pair) → qs ≡ [] → ids_known l qs ≡ true
-unfolding ids_known
-ids-end l qs e = ap (ids_known l) e
+ids-next l p ps qs e h = (and-eq-true_iff _ _).0 (sym (ap (ids_known l) e) ∙ h)
 
 -- ---- lengths
 
@@ -64,7 +57,7 @@ abbrev joined : Answer (List ℕ) → Answer (List ℕ) → Answer (List ℕ)
 joined a b = a then λ o. b then λ r. gives (o ++ r)
 
 joined_length : (a b : Answer (List ℕ)) (t k : ℕ) → length_of a ≡ gives k → adds (t + k) (length_of b) ≡ adds t (length_of (joined a b))
-unfolding length_of ◌then◌
+unfolding length_of and_then
 joined_length (gives o) (gives r) t k p =
     let e : length o ≡ k = gives-inj (length o) k p in
     let q = length-append o r in
@@ -73,12 +66,12 @@ joined_length (gives o) (refuses e) t k p = refl
 joined_length (refuses e) b t k p = absurd (never k e p)
 
 joined-refused : (a b : Answer (List ℕ)) (e : Numbers) → length_of a ≡ refuses e → length_of (joined a b) ≡ refuses e
-unfolding length_of ◌then◌
+unfolding length_of and_then
 joined-refused (gives o) b e p = absurd (never (length o) e (sym p))
 joined-refused (refuses d) b e p = p
 
 pub adds_none : (a : Answer ℕ) → adds 0 a ≡ a
-unfolding ◌then◌
+unfolding and_then
 adds_none (gives k) = ap gives (let z : 0 + k ≡ k = omega arith in z)
 adds_none (refuses e) = refl
 
@@ -95,35 +88,22 @@ unfolding pairs_octets
 length-not l p ps qs e h r = ap (λ (x : List Pair). length_of (pairs_octets l x)) h ∙ joined-refused (pair_octets l p) (pairs_octets l ps) e r
 
 pub length-end : (l : List Row) (qs : List Pair) (t : ℕ) → qs ≡ [] → adds t (length_of (pairs_octets l qs)) ≡ gives t
-unfolding pairs_octets length_of ◌then◌
+unfolding pairs_octets length_of and_then
 length-end l qs t e = ap (λ (x : List Pair). adds t (length_of (pairs_octets l x))) e ∙ ap gives (let z : t + 0 ≡ t = omega arith in z)
 
 pub length-given : (a : Answer (List ℕ)) (o : List ℕ) → a ≡ gives o → length_of a ≡ gives (length o)
 unfolding length_of
 length-given a o p = gives_then _ _ o p
 
-pub length-refused : (a : Answer (List ℕ)) (e : Numbers) → a ≡ refuses e → length_of a ≡ refuses e
-unfolding length_of
-length-refused a e p = refuses-then _ _ e p
-
 pub length-is : (a : Answer (List ℕ)) (k : ℕ) → length_of a ≡ gives k → (o : List ℕ) × (a ≡ gives o) × (length o ≡ k)
 unfolding length_of
 length-is a k p = let t = then-gives a (λ o. gives (length o)) k p in (t.0, t.1, gives-inj (length t.0) k t.2)
-
-pub length-not-is : (a : Answer (List ℕ)) (e : Numbers) → length_of a ≡ refuses e → a ≡ refuses e
-unfolding length_of ◌then◌
-length-not-is (gives o) e p = absurd (never (length o) e (sym p))
-length-not-is (refuses d) e p = ap refuses (refuses-inj d e p)
 
 -- ---- a pair
 
 module _ (l : List Row) (p : Pair) where
   abbrev row_of_pair : Row
   row_of_pair = row_of l p.id
-
-  pub pair-refused : (e : Numbers) → pattern_of (ptc_of row_of_pair) (pfc_of row_of_pair) p.value ≡ refuses e → pair_octets l p ≡ refuses e
-  unfolding pair_octets
-  pair-refused e h = refuses-then _ _ e (octets-refused _ _ _ e h)
 
   pub record PairOctets (o : List ℕ) : Type 0 where
     pub value : List ℕ
@@ -140,17 +120,11 @@ module _ (l : List Row) (p : Pair) where
       let w = written-length _ _ _ r.value r.are in
       let e : length (be16 p.id ++ r.value) ≡ 2 + octets_in l p.id = omega (arith, w) in ap length (sym r.is) ∙ e
 
-  pub pair-given : (n : ℕ) → pattern_of (ptc_of row_of_pair) (pfc_of row_of_pair) p.value ≡ gives n → length_of (pair_octets l p) ≡ gives (2 + octets_in l p.id)
-  unfolding pair_octets
-  pair-given n h =
-      let g : pair_octets l p ≡ gives (be16 p.id ++ octets_of (octets_in l p.id) n) = gives_then _ _ _ (octets-given _ _ _ n h) in
-      length-given _ _ g ∙ ap gives (pair-length _ g)
-
   pub pair-ten : (k : ℕ) → length_of (pair_octets l p) ≡ gives k → k ≤ 10
   pair-ten k h =
       let t = length-is (pair_octets l p) k h in
       let e = pair-length t.0 t.1 in
-      let m = octets-le (ptc_of row_of_pair) (pfc_of row_of_pair) in
+      let m = octets_le (ptc_of row_of_pair) (pfc_of row_of_pair) in
       let j = t.2 in omega (arith, e, m, j)
 
 pub pairs-ten : (l : List Row) (ps : List Pair) (o : List ℕ) → pairs_octets l ps ≡ gives o → length o ≤ 10 * length ps
@@ -167,18 +141,6 @@ pairs-ten l (p ∷ ps) o e =
 -- ---- the request
 
 module _ (l : List Row) (n : ℕ) (ps : List Pair) where
-  pub request-list : (e : Numbers) → list_check l ≡ refuses e → request_octets l n ps ≡ refuses e
-  unfolding request_octets
-  request-list e h = refuses-then _ _ e h
-
-  pub request-ids : list_check l ≡ gives tt → ids_known l ps ≡ false → request_octets l n ps ≡ refuses (refusal 22 [])
-  unfolding request_octets
-  request-ids g h = gives_then _ _ tt g ∙ refuse-yes _ _ _ (ap not h)
-
-  pub request-many : list_check l ≡ gives tt → ids_known l ps ≡ true → 255 < n → request_octets l n ps ≡ refuses (refusal 24 [])
-  unfolding request_octets
-  request-many g h k = gives_then _ _ tt g ∙ refuse-no _ _ _ (ap not h) ∙ refuse-yes _ _ _ (lt-ltb 255 n k)
-
   pub request-pairs : list_check l ≡ gives tt → ids_known l ps ≡ true → n ≤ 255 → request_octets l n ps ≡ (pairs_octets l ps then λ o. gives (n ∷ o))
   unfolding request_octets
   request-pairs g h k = gives_then _ _ tt g ∙ refuse-no _ _ _ (ap not h) ∙ refuse-no _ _ _ (le-ltb 255 n k)
@@ -200,26 +162,17 @@ module _ (l : List Row) (n : ℕ) (ps : List Pair) where
       let u = then-gives (pairs_octets l ps) _ o q.1 in
       record { list-good = t.1; ids = not-false _ p.0; few = ltb-false 255 n q.0; pairs = u.0; are = u.1; is = gives-inj _ o u.2 }
 
--- the octets behind the count
-pub counted-length : (a : Answer (List ℕ)) (n k : ℕ) → length_of a ≡ gives k → length_of (a then λ o. gives (n ∷ o)) ≡ gives (1 + k)
-unfolding length_of ◌then◌
-counted-length (gives o) n k p = ap gives (let e : length o ≡ k = gives-inj (length o) k p in let z : suc (length o) ≡ 1 + k = omega arith in z)
-counted-length (refuses e) n k p = absurd (never k e p)
-
-pub counted-refused : (a : Answer (List ℕ)) (n : ℕ) (e : Numbers) → length_of a ≡ refuses e → length_of (a then λ o. gives (n ∷ o)) ≡ refuses e
-unfolding length_of ◌then◌
-counted-refused (gives o) n e p = absurd (never (length o) e (sym p))
-counted-refused (refuses d) n e p = p
-
 -- ---- what a write leaves
 
 -- octets that an answer gives, where there is room for them
-pub wrote-left : (a : Answer (List ℕ)) (v before after : List ℕ) (r : SizeResult) → a ≡ gives v → length v ≤ length before
-    → Wrote (size_in a (length before)) (given_by a) before r after → after ≡ v ++ drop (length v) before
+pub wrote-whole : (a : Answer (List ℕ)) (v before after : List ℕ) (r : Result ℕ PusError) → a ≡ gives v → length v ≤ length before
+    → Wrote (size_in a (length before)) (given_by a) before r after → (r ≡ Ok (length v)) × (after ≡ v ++ drop (length v) before)
 unfolding size_in
-wrote-left a v before after r p h w =
-    w.left ∙ left-written (size_in a (length before)) (given_by a) before (length v) (gives_then a (λ l. in_buffer (length before) (length l)) v p ∙ has_room (length before) (length v) (length v) refl h)
-    ∙ ap (λ (x : Answer (List ℕ)). given_by x ++ drop (length v) before) p
+wrote-whole a v before after r p h w =
+    let g = gives_then a (λ l. in_buffer (length before) (length l)) v p ∙ has_room (length before) (length v) (length v) refl h in (
+      answer-inj r (Ok (length v)) (w.answered ∙ g),
+      w.left ∙ left-written (size_in a (length before)) (given_by a) before (length v) g ∙ ap (λ (x : Answer (List ℕ)). given_by x ++ drop (length v) before) p,
+    )
 
 -- a part from `at` on comes back as the buffer's tail
 pub tail-back : (at : ℕ) (m y : List ℕ) → put_mid at (length m - at) m y ≡ take at m ++ y
@@ -227,41 +180,46 @@ tail-back at m y =
     ap (λ (x : List ℕ). take at m ++ (y ++ x)) (ap (λ (k : ℕ). drop k (drop at m)) (sym (length-drop at m)) ∙ drop-length (drop at m))
     ∙ ap (λ (x : List ℕ). take at m ++ x) (append-nil y)
 
--- a pair's two octets and its value's, over the first of a part
-pub pair-over : (b v z : List ℕ) (x y : ℕ) → 2 + length v ≤ length b → z ≡ v ++ drop (length v) (drop 2 (set (set b 0 x) 1 y))
-    → take 2 (set (set b 0 x) 1 y) ++ z ≡ (x ∷ y ∷ v) ++ drop (length (x ∷ y ∷ v)) b
-pair-over [] v z x y h e = absurd (omega arith)
-pair-over (a ∷ []) v z x y h e = absurd (omega arith)
-pair-over (a ∷ c ∷ b) v z x y h e = ap (λ (l : List ℕ). x ∷ y ∷ l) e
+-- a pair written over the first of a part: two octets of its ID, and its value, which write_value wrote behind them
+pub record PairPut (l : List Row) (p : Pair) (part after : List ℕ) (r : Result ℕ PusError) : Type 0 where
+  pub size : ℕ
+  pub done : r ≡ Ok size
+  pub few : size ≤ 8
+  pub whole : 2 + size ≡ length (given_by (pair_octets l p))
+  pub left : be16 p.id ++ after ≡ given_by (pair_octets l p) ++ drop (length (given_by (pair_octets l p))) part
 
--- an ID stored, and its value written behind it by the row
-module _ (l : List Row) (p : Pair) (row : Row) (b z : List ℕ) (r : SizeResult) (e : row ≡ row_of l p.id) (h : HasRoom (pair_octets l p) 0 (length b)) where
-  abbrev stored : List ℕ
-  stored = set (set b 0 (p.id / 256)) 1 (p.id % 256)
+module _ (l : List Row) (p : Pair) (part : List ℕ) (h : HasRoom (pair_octets l p) 0 (length part)) where
+  pub pair-known : known l p.id ≡ true
+  pair-known =
+      let o = pair-octets-are l p h.octets h.are in
+      let v = octets-are _ _ _ o.value o.are in
+      known-named l p.id (pattern-is _ _ _ v.number v.pattern).named
 
-  abbrev part : List ℕ
-  part = take (length stored - 2) (drop 2 stored)
-
-  pub pair_left : Wrote (size_in (value_octets (ptc_of row) (pfc_of row) p.value) (length part)) (given_by (value_octets (ptc_of row) (pfc_of row) p.value)) part r z
-      → put_mid 2 (length stored - 2) stored z ≡ given_by (pair_octets l p) ++ drop (length (given_by (pair_octets l p))) b
-  pair_left w =
+  pub pair-put : (row before after : List ℕ) (r : Result ℕ PusError) → row ≡ row_of l p.id → before ≡ drop 2 part
+      → Wrote (size_in (value_octets (ptc_of row) (pfc_of row) p.value) (length before)) (given_by (value_octets (ptc_of row) (pfc_of row) p.value)) before r after
+      → PairPut l p part after r
+  pair-put row before after r e b w =
       let o = pair-octets-are l p h.octets h.are in
       let v = o.value in
-      let k : 2 + length v ≤ length b = (let y = ap length o.is in let x = h.room in omega (arith, x, y)) in
-      let n : length stored ≡ length b = length-set (set b 0 (p.id / 256)) 1 (p.id % 256) ∙ length-set b 0 (p.id / 256) in
-      let t : length part ≡ length stored - 2 = ap length (tail-is 2 stored) ∙ length-drop 2 stored in
+      let i : given_by (pair_octets l p) ≡ be16 p.id ++ v = ap given_by h.are ∙ sym o.is in
       let a : value_octets (ptc_of row) (pfc_of row) p.value ≡ gives v = ap (λ (x : Row). value_octets (ptc_of x) (pfc_of x) p.value) e ∙ o.are in
-      tail-back 2 stored z
-      ∙ pair-over b v z _ _ k (wrote-left _ v part z r a (omega (arith, k, n, t)) w ∙ ap (λ (x : List ℕ). v ++ drop (length v) x) (tail-is 2 stored))
-      ∙ ap (λ (x : List ℕ). x ++ drop (length x) b) (o.is ∙ sym (ap given_by h.are))
-
-pub pair_same : (l : List Row) (p : Pair) (b m : List ℕ) → HasRoom (pair_octets l p) 0 (length b) → m ≡ given_by (pair_octets l p) ++ drop (length (given_by (pair_octets l p))) b → length m ≡ length b
-pair_same l p b m h q =
-    let o = given_by (pair_octets l p) in
-    let a = ap length q ∙ length-append o (drop (length o) b) in
-    let d = length-drop (length o) b in
-    let g : length o ≡ length h.octets = ap (λ (x : Answer (List ℕ)). length (given_by x)) h.are in
-    let x = h.room in omega (arith, a, d, g, x)
+      let k = written-length _ _ _ v o.are in
+      let m = octets_le (ptc_of (row_of l p.id)) (pfc_of (row_of l p.id)) in
+      let n = ap length o.is in
+      let d = ap length b ∙ length-drop 2 part in
+      let room = h.room in
+      let q = wrote-whole _ v before after r a (omega (arith, room, n, d)) w in
+      let z : length (be16 p.id ++ v) ≡ 2 + length v = omega arith in
+      record {
+        size = length v;
+        done = q.0;
+        few = omega (arith, k, m);
+        whole = sym (ap length i ∙ z);
+        left =
+            ap (λ (x : List ℕ). be16 p.id ++ x) (q.1 ∙ ap (λ (x : List ℕ). v ++ drop (length v) x) b ∙ ap (λ (x : List ℕ). v ++ x) (drop-drop (length v) 2 part))
+            ∙ ap (λ (j : ℕ). (be16 p.id ++ v) ++ drop j part) (sym z)
+            ∙ ap (λ (x : List ℕ). x ++ drop (length x) part) (sym i);
+      }
 
 -- ---- the pairs, one after the other
 
@@ -304,14 +262,6 @@ module _ (l : List Row) (ps : List Pair) (before : List ℕ) (i at : ℕ) (buf :
       let q = length-append g.done g.rest in
       let z = ap length g.parts in omega (arith, e, d, w, s, r, q, z)
 
-  pub putting-within : at ≤ length buf
-  putting-within =
-      let b = putting-length in
-      let s = g.so_far in
-      let r = g.all.room in
-      let q = length-append g.done g.rest in
-      let z = ap length g.parts in omega (arith, b, s, r, q, z)
-
   -- the next pair's octets, and those behind them
   record Turn (p : Pair) (qs : List Pair) : Type 0 where
     octets : List ℕ
@@ -330,7 +280,7 @@ module _ (l : List Row) (ps : List Pair) (before : List ℕ) (i at : ℕ) (buf :
   pub putting-room : (p : Pair) (qs : List Pair) → drop i ps ≡ p ∷ qs → HasRoom (pair_octets l p) 0 (length (take (length buf - at) (drop at buf)))
   putting-room p qs e =
       let t = turn p qs e in
-      let a = ap length (tail-is at buf) ∙ length-drop at buf in
+      let a = ap length (tail_is at buf) ∙ length-drop at buf in
       let b = putting-length in
       let s = g.so_far in
       let r = g.all.room in
@@ -338,14 +288,6 @@ module _ (l : List Row) (ps : List Pair) (before : List ℕ) (i at : ℕ) (buf :
       let z = ap length g.parts in
       let u = ap length (sym t.both) ∙ length-append t.octets t.others in
       record { octets = t.octets; are = t.are; room = omega (arith, a, b, s, r, q, z, u) }
-
-  pub putting-up : (p : Pair) (qs : List Pair) (k : ℕ) → drop i ps ≡ p ∷ qs → k ≡ length (given_by (pair_octets l p)) → at + k ≤ length buf
-  putting-up p qs k e h =
-      let r = putting-room p qs e in
-      let a = ap length (tail-is at buf) ∙ length-drop at buf in
-      let o = r.room in
-      let w = putting-within in
-      let n : k ≡ length r.octets = h ∙ ap (λ (x : Answer (List ℕ)). length (given_by x)) r.are in omega (arith, a, o, w, n)
 
   pub putting-on : (p : Pair) (k : ℕ) (y : List ℕ) → drop i ps ≡ p ∷ drop (i + 1) ps → k ≡ length (given_by (pair_octets l p))
       → y ≡ given_by (pair_octets l p) ++ drop (length (given_by (pair_octets l p))) (take (length buf - at) (drop at buf))
@@ -361,7 +303,7 @@ module _ (l : List Row) (ps : List Pair) (before : List ℕ) (i at : ℕ) (buf :
       let r : drop at buf ≡ drop at before = ap (drop at) g.left ∙ drop_at x (drop at before) at w in
       let m : length o ≡ k = sym n in
       let v : y ≡ o ++ drop (at + k) before =
-      z ∙ ap₂ (λ (a b : List ℕ). a ++ drop (length a) b) gv (tail-is at buf ∙ r) ∙ ap (λ (b : List ℕ). o ++ b) (drop-drop (length o) at before ∙ ap (λ (j : ℕ). drop (at + j) before) m) in
+      z ∙ ap₂ (λ (a b : List ℕ). a ++ drop (length a) b) gv (tail_is at buf ∙ r) ∙ ap (λ (b : List ℕ). o ++ b) (drop-drop (length o) at before ∙ ap (λ (j : ℕ). drop (at + j) before) m) in
       let s = g.so_far in
       let q = length-append g.done o in
       record {
@@ -387,18 +329,6 @@ module _ (l : List Row) (ps : List Pair) (before : List ℕ) (i at : ℕ) (buf :
       ∙ ap (λ (x : List ℕ). take 1 before ++ x ++ drop (1 + length x) before) a
 
 -- ---- the whole write
-
-pub wrote-not : (a : Answer (List ℕ)) (r : SizeResult) (e : PusError) (before : List ℕ) → r ≡ S.Err e → size_answer r ≡ length_of a → Wrote (size_in a (length before)) (given_by a) before r before
-wrote-not a r e before p q =
-    subst (λ (x : SizeResult). Wrote (size_in a (length before)) (given_by a) before x before) (sym p)
-    (wrote-refused a e before (length-not-is a (numbers_of e) (sym q ∙ ap size_answer p)))
-
-pub wrote-small : (a : Answer (List ℕ)) (total : ℕ) (before : List ℕ) → length_of a ≡ gives total → length before < total
-    → Wrote (size_in a (length before)) (given_by a) before (S.Err (ByteConversion (ToSliceTooSmall (length before) total))) before
-wrote-small a total before p h =
-    let t = length-is a total p in
-    let n = no_room (length before) total (length t.0) (sym t.2) h in
-    wrote-given a t.0 before _ before t.1 (record { answered = n; left = sym (left-refused _ t.0 before _ (sym n)) })
 
 counted-over : (b o : List ℕ) (n : ℕ) → 1 ≤ length b → take 1 (set b 0 n) ++ o ++ drop (1 + length o) (set b 0 n) ≡ (n ∷ o) ++ drop (length (n ∷ o)) b
 counted-over [] o n h = absurd (omega arith)
@@ -432,17 +362,10 @@ module _ (l : List Row) (n : ℕ) (ps : List Pair) (total : ℕ) (before : List 
       ∙ counted-over before parts-of.pairs n (omega (arith, t, h))
       ∙ ap (λ (x : List ℕ). x ++ drop (length x) before) parts-of.is
 
-  pub done-length : (after : List ℕ) → Stored after → length after ≡ length before
-  done-length after e =
-      let o = whole.0 in
-      let a = ap length (stored-left after e) ∙ length-append o (drop (length o) before) in
-      let d = length-drop (length o) before in
-      let w = whole.2 in omega (arith, a, d, w, h)
-
-  pub wrote-done : (after : List ℕ) → Stored after → Wrote (size_in (request_octets l n ps) (length before)) (given_by (request_octets l n ps)) before (S.Ok total) after
+  pub wrote-done : (after : List ℕ) → Stored after → Wrote (size_in (request_octets l n ps) (length before)) (given_by (request_octets l n ps)) before (Ok total) after
   wrote-done after e =
       let o = whole.0 in
       let w = whole.2 in
       let g : in_buffer (length before) (length o) ≡ gives (length o) = has_room (length before) total (length o) (sym w) h in
-      wrote-given (request_octets l n ps) o before (S.Ok total) after whole.1
+      wrote-given (request_octets l n ps) o before (Ok total) after whole.1
       (record { answered = ap gives (sym w) ∙ sym g; left = stored-left after e ∙ sym (left-written _ o before (length o) g) })

@@ -1,5 +1,5 @@
 -- The list of the mission's parameters: rows of an ID, its PTC and its PFC, the IDs strictly rising.
-use Rattle.std.specs.Prelude.{ℕ, Bool, true, false, not, ◌&&◌, ◌||◌, List, [], ◌∷◌, get_or, eqb, ltb}
+use Rattle.std.specs.Prelude.{ℕ, Bool, true, false, not, ◌&&◌, ◌||◌, List, [], ◌∷◌, get_or, eqb, ltb, Option, Some, None}
 use Rattle.space_packet.specs.Bits.{pick}
 use Rattle.space_packet.specs.Answer.{Passed, gives, refusal, refuse_if}
 use Rattle.param_value.specs.Values.{octets_for}
@@ -45,3 +45,7 @@ known (r ∷ l) id = eqb (id_of r) id || known l id
 unfoldable pub row_of : List Row → ℕ → Row
 row_of [] id = 0 ∷ 0 ∷ 0 ∷ []
 row_of (r ∷ l) id = pick (eqb (id_of r) id) r (row_of l id)
+
+-- the row of a parameter that the list has
+abbrev pub row_in : List Row → ℕ → Option Row
+row_in l id = pick (known l id) (Some (row_of l id)) None

@@ -1,20 +1,15 @@
 -- The set request, service 20 subtype 3: a count of one octet, then pairs of a two-octet parameter ID and a value. How it is read and how
 -- it is written, by the list of the mission's parameters.
-use Rattle.std.specs.Prelude.{ℕ, zero, suc, ◌+◌, Bool, true, not, ◌&&◌, List, [], ◌∷◌, ◌++◌, length, take, drop, get_or, set, replicate, ltb}
+use Rattle.std.specs.Prelude.{ℕ, zero, suc, ◌+◌, Bool, true, not, ◌&&◌, List, [], ◌∷◌, ◌++◌, length, take, drop, get_or, set, replicate, ltb, Option, Some, None}
+use Rattle.space_packet.specs.Answer.{Answer, Kept, gives, refuses, refusal, refuse_if, ◌then◌}
 use Rattle.space_packet.specs.Bits.{pick, be16, word}
-use Rattle.space_packet.specs.Answer.{Answer, Kept, gives, refuses, refusal, refuse_if, ◌then◌, numbers_of, check_answer}
 use Rattle.param_value.specs.Octets.{number_of, size_in}
 use Rattle.param_value.specs.Values.{value_of, value_octets}
 use Rattle.param_value.specs.declared.Value.TheVariants.{Unsigned}
 use Rattle.params.specs.Parameters.{Row, ptc_of, pfc_of, octets_by, list_check, known, row_of}
 use Rattle.params.specs.declared.Pair.{Pair}
 use Rattle.params.specs.declared.Params.{Params}
-use Rattle.params.specs.declared.ParamsRead.{ParamsRead}
-use Rattle.params.specs.declared.PairAt.{PairAt}
-use Rattle.params.specs.declared.PairAt.TheVariants.{Some, None}
 use Rattle.params.specs.declared.Found.{Found}
-use Rattle.params.specs.declared.FoundResult.{FoundResult}
-use Rattle.params.specs.declared.FoundResult.TheVariants as FR
 
 -- ---- the record of the pairs
 
@@ -33,7 +28,7 @@ abbrev pub pushed : Params → Pair → Params
 pushed p x = pick (ltb p.count 255) (record { pairs = set p.pairs p.count x; count = p.count + 1 }) (record { pairs = p.pairs; count = 256 })
 
 -- the i-th pair, from 0 on
-abbrev pub pair_at : List Pair → ℕ → PairAt
+abbrev pub pair_at : List Pair → ℕ → Option Pair
 pair_at l i = pick (ltb i (length l)) (Some (get_or l i blank)) None
 
 -- ---- reading
@@ -119,12 +114,3 @@ length_of a = a then λ o. gives (length o)
 -- written into a buffer of m octets: 21, 22, 24, then 1
 abbrev pub write_in : List Row → Params → ℕ → Answer ℕ
 write_in l p m = size_in (record_octets l p) m
-
--- ---- the answers of this crate's calls
-
-abbrev pub params_kept : ParamsRead → Kept Params
-params_kept r = record { passed = check_answer r.result; kept = r.params }
-
-abbrev pub found_answer : FoundResult → Answer Found
-found_answer (FR.Ok f) = gives f
-found_answer (FR.Err e) = refuses (numbers_of e)

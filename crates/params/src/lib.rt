@@ -2,102 +2,70 @@
 // value. Types come from a lent list of the mission's parameters: rows of an ID, its PTC and its PFC, the IDs strictly rising.
 #![tactic(auto)]
 
-ghost use Rattle.std.specs.Prelude.{◌≡◌, true, [], ◌++◌, suc, ◌+◌, ◌≤◌, ◌<◌, length, take, drop, get_or};
-ghost use Rattle.space_packet.specs.Answer.{check_answer, size_answer};
+ghost use Rattle.space_packet.specs.Answer.{answer_of, outcome};
+ghost use Rattle.std.specs.Prelude.{◌≡◌, true, [], ◌++◌, ◌+◌, ◌≤◌, OnOk, IfOk, length, take, drop};
 ghost use Rattle.space_packet.specs.Wrote.{Wrote};
 ghost use Rattle.param_value.specs.Octets.{given_by};
-ghost use Rattle.params.specs.Parameters.{row_good, list_good, list_check, row_of};
-ghost use Rattle.params.specs.Request.{holding, pushed, pairs_of, pair_at, read_pair, read_pairs, all_read, read_in, ids_known, pair_octets, pairs_octets, record_octets, write_in, length_of, kept_of, params_kept, found_answer};
-ghost use Rattle.params.specs.Places.{Used, HasRoom};
+ghost use Rattle.params.specs.Parameters.{list_good, list_check, known, row_in};
+ghost use Rattle.params.specs.Request.{holding, pushed, pairs_of, pair_at, read_pair, read_in, ids_known, pair_octets, pairs_octets, record_octets, write_in, length_of};
+ghost use Rattle.params.specs.Places.{HasRoom};
 
-use param_value::{PatternResult, Value, ValueResult};
-use space_packet::{ByteConversionError, CheckResult, PusError, SizeResult};
+use param_value::Value;
+use space_packet::{ByteConversionError, PusError};
 
 // A parameter and its value.
-#[derive(Clone, Copy)]
+#[derive(Clone, Copy, PartialEq)]
 pub struct Pair {
     pub id: u16,
     pub value: Value,
 }
 
-// The pairs of a request: the first `count`. A count above 255 says that there were more.
-#[derive(Clone, Copy)]
+const BLANK: Pair = Pair {
+    id: 0,
+    value: Value::Unsigned(0),
+};
+
+// The pairs of a request: the first `count`. A count above 255 says that there were more. An array and its count, since there is no heap.
+#[derive(Clone, Copy, PartialEq)]
 pub struct Params {
     pairs: [Pair; 255],
     count: usize,
 }
 
-// What reading answers, and the pairs that it read: none where it was refused.
-#[derive(Clone, Copy)]
-pub struct ParamsRead {
-    pub params: Params,
-    pub result: CheckResult,
-}
-
-#[derive(Clone, Copy)]
-pub enum PairAt {
-    Some(Pair),
-    None,
-}
-
 // A pair that was read, and where it ends.
-#[derive(Clone, Copy)]
+#[derive(Clone, Copy, PartialEq)]
 struct Found {
     pair: Pair,
     end: usize,
 }
 
-#[derive(Clone, Copy)]
-enum FoundResult {
-    Ok(Found),
-    Err(PusError),
-}
+// ---- the list; a row stays three numbers, as specs/Parameters.antt and the theorems on it have it
 
-// ---- the list
-
-// The type of a row is named, and the ID of the next one is larger.
-fn row_good(list: &[[u16; 3]], i: usize) -> bool
-    requires { i < length list.now }
-    ensures { result ≡ row_good (get_or list.now i []) (drop (suc i) list.now) }
+// Each type is named, and each ID is below the next.
+fn is_good(list: &[[u16; 3]]) -> bool
+    ensures { result ≡ list_good list.now }
 {
-    let row = list[i];
-    if param_value::octets_for(row[1], row[2]) == 0 {
-        return false;
-    }
-    if i + 1 < list.len() {
-        let next = list[i + 1];
-        return row[0] < next[0];
-    }
-    true
+    list.iter()
+        .all(|row| param_value::octets_for(row[1], row[2]) != 0)
+        && list.is_sorted_by(|row, next| row[0] < next[0])
 }
 
 // 21 where the list is not strictly rising, or has a type that is not named.
-pub fn check_list(list: &[[u16; 3]]) -> CheckResult
-    ensures { check_answer result ≡ list_check list.now }
+#[tactic(auto, unfolding(space_packet::specs::Answer::refuse_if, crate::specs::Parameters::list_check))]
+pub fn check_list(list: &[[u16; 3]]) -> Result<(), PusError>
+    ensures { answer_of result ≡ list_check list.now }
 {
-    let mut i: usize = 0;
-    while i < list.len() {
-        if !row_good(list, i) {
-            return CheckResult::Err(PusError::ParameterList);
-        }
-        i += 1;
+    if !is_good(list) {
+        return Err(PusError::ParameterList);
     }
-    CheckResult::Ok
+    Ok(())
 }
 
-// The row of a parameter; zeros, which name no type, where the list has none.
-fn row_of(list: &[[u16; 3]], id: u16) -> [u16; 3]
-    ensures { result ≡ row_of list.now id }
+// The row of a parameter.
+fn find_row(list: &[[u16; 3]], id: u16) -> Option<[u16; 3]>
+    ensures { result ≡ row_in list.now id }
 {
-    let mut i: usize = 0;
-    while i < list.len() {
-        let row = list[i];
-        if row[0] == id {
-            return row;
-        }
-        i += 1;
-    }
-    [0, 0, 0]
+    list.iter().find(|row| row[0] == id).copied()
 }
 
 // ---- reading
@@ -112,254 +80,184 @@ fn ended_early(data: &[u8], expected: usize) -> PusError
 }
 
 // The pair from octet `at` on; 2, 22, 2.
-fn read_pair(list: &[[u16; 3]], data: &[u8], at: usize) -> FoundResult
+#[tactic(auto, using(param_value::proofs::Types::octets_le, crate::proofs::Lists::known_by, crate::proofs::ReadLaws::tail_is), unfolding(space_packet::specs::Answer::refuse_if, param_value::specs::Values::read_value, crate::specs::Request::read_pair))]
+fn read_pair(list: &[[u16; 3]], data: &[u8], at: usize) -> Result<Found, PusError>
     requires { (list_good list.now ≡ true) × (at ≤ length «data».now) }
-    ensures { found_answer result ≡ read_pair list.now «data».now at }
+    ensures { answer_of result ≡ read_pair list.now «data».now at }
 {
     if data.len() < at + 2 {
-        return FoundResult::Err(ended_early(data, at + 2));
+        return Err(ended_early(data, at + 2));
     }
     let id = space_packet::word_at(data, at);
-    let row = row_of(list, id);
-    let octets = param_value::octets_for(row[1], row[2]);
-    if octets == 0 {
-        return FoundResult::Err(PusError::UnknownParameter);
-    }
-    let read = param_value::read_value(row[1], row[2], &data[at + 2..]);
-    let end = at + 2 + octets;
-    match read {
-        ValueResult::Err(_) => FoundResult::Err(ended_early(data, end)),
-        ValueResult::Ok(value) => {
-            let pair = Pair { id, value };
-            FoundResult::Ok(Found { pair, end })
-        }
-    }
-}
-
-fn refused(e: PusError) -> ParamsRead
-    ensures { result ≡ record { params = holding []; result = CheckResult.Err e } }
-{
-    ParamsRead {
-        params: Params::new(),
-        result: CheckResult::Err(e),
-    }
-}
-
-// The pairs behind the count; 2, 22, 23.
-fn read_pairs(list: &[[u16; 3]], data: &[u8]) -> ParamsRead
-    requires { (list_good list.now ≡ true) × (1 ≤ length «data».now) }
-    ensures { params_kept result ≡ kept_of (all_read «data».now (read_pairs list.now «data».now (get_or «data».now 0 0) 1)) }
-{
-    let count = data[0] as usize;
-    let blank = Pair {
-        id: 0,
-        value: Value::Unsigned(0),
-    };
-    let mut pairs = [blank; 255];
-    let mut at: usize = 1;
-    let mut i: usize = 0;
-    while i < count {
-        let read = read_pair(list, data, at);
-        match read {
-            FoundResult::Err(e) => {
-                return refused(e);
-            }
-            FoundResult::Ok(found) => {
-                let pair = found.pair;
-                pairs[i] = pair;
-                at = found.end;
-            }
-        }
-        i += 1;
-    }
-    if at < data.len() {
-        return refused(PusError::OctetsLeftOver);
-    }
-    ParamsRead {
-        params: Params { pairs, count },
-        result: CheckResult::Ok,
-    }
+    let [_, ptc, pfc] = find_row(list, id).ok_or(PusError::UnknownParameter)?;
+    let end = at + 2 + param_value::octets_for(ptc, pfc);
+    let value = param_value::read_value(ptc, pfc, &data[at + 2..]).map_err(|_| ended_early(
+        data, end,
+    ))?;
+    Ok(Found {
+        pair: Pair { id, value },
+        end,
+    })
 }
 
 impl Params {
     // No pairs.
+    #[tactic(auto, unfolding(crate::specs::Request::holding))]
     pub fn new() -> Params
         ensures { result ≡ holding [] }
     {
-        let blank = Pair {
-            id: 0,
-            value: Value::Unsigned(0),
-        };
         Params {
-            pairs: [blank; 255],
+            pairs: [BLANK; 255],
             count: 0,
         }
     }
 
-    // With one pair more. A 256th is not kept: the count then says that there were more than 255.
-    pub fn push(self, pair: Pair) -> Params
-        ensures { result ≡ pushed self pair }
+    // One pair more. A 256th is not kept: the count then says that there were more than 255.
+    pub fn push(&mut self, pair: Pair)
+        ensures { self.new ≡ pushed self.old pair }
     {
-        let n = self.count;
-        let mut pairs = self.pairs;
-        if n < 255 {
-            pairs[n] = pair;
-            return Params {
-                pairs,
-                count: n + 1,
-            };
+        if self.count < 255 {
+            self.pairs[self.count] = pair;
+            self.count += 1;
+        } else {
+            self.count = 256;
         }
-        Params { pairs, count: 256 }
     }
 
-    // The pairs of a request, by its application data; 21; 2 or 22, the first met; 23.
-    pub fn read(list: &[[u16; 3]], data: &[u8]) -> ParamsRead
-        ensures { params_kept result ≡ read_in list.now «data».now }
+    // Reads the pairs of a request, by its application data; 21; 2 or 22, the first met; 23. There are none where it is refused.
+    #[tactic(auto, unfolding(crate::specs::Request::kept_of))]
+    pub fn read(&mut self, list: &[[u16; 3]], data: &[u8]) -> Result<(), PusError>
+        ensures { outcome result self.new ≡ read_in list.now «data».now }
     {
-        let check = check_list(list);
-        if let CheckResult::Err(e) = check {
-            return refused(e);
+        *self = Params::new();
+        let read = self.read_pairs(list, data);
+        if read.is_err() {
+            *self = Params::new();
         }
-        if data.len() < 1 {
-            return refused(ended_early(data, 1));
-        }
-        read_pairs(list, data)
+        read
     }
 
-    // The places in use: never more than there are.
-    fn used(self) -> usize
-        ensures { Used self result }
+    // Reads the pairs into an empty record, and leaves those before a refusal there.
+    #[tactic(auto, unfolding(space_packet::specs::Answer::and_then, space_packet::specs::Answer::refuse_if, crate::specs::Request::read_request, crate::specs::Request::all_read, crate::specs::Request::kept_of))]
+    fn read_pairs(&mut self, list: &[[u16; 3]], data: &[u8]) -> Result<(), PusError>
+        requires { self.old ≡ holding [] }
+        ensures passed { answer_of result ≡ (read_in list.now «data».now).passed }
+        ensures kept { OnOk result (self.new ≡ (read_in list.now «data».now).kept) }
     {
-        let n = self.count;
-        if n < 255 { n } else { 255 }
+        check_list(list)?;
+        let &[count, ..] = data else {
+            return Err(ended_early(data, 1));
+        };
+        let mut at = 1;
+        for _i in 0..count {
+            let found = read_pair(list, data, at)?;
+            self.push(found.pair);
+            at = found.end;
+        }
+        if at < data.len() {
+            return Err(PusError::OctetsLeftOver);
+        }
+        Ok(())
+    }
+
+    // The pairs that are kept.
+    fn kept(&self) -> &[Pair]
+        ensures value { result.now ≡ pairs_of self.now }
+        ensures bound { length result.now ≤ 255 }
+    {
+        &self.pairs[..self.count.min(255)]
     }
 
     // How many pairs there are; 256 where there were more than 255.
-    pub fn len(self) -> usize
-        ensures { result ≡ self.count }
+    pub fn len(&self) -> usize
+        ensures { result ≡ self.now.count }
     {
         self.count
     }
 
     // The i-th pair, from 0 on.
-    pub fn get(self, i: usize) -> PairAt
-        ensures { result ≡ pair_at (pairs_of self) i }
+    pub fn get(&self, i: usize) -> Option<Pair>
+        ensures { result ≡ pair_at (pairs_of self.now) i }
     {
-        if i < self.used() {
-            let pairs = self.pairs;
-            return PairAt::Some(pairs[i]);
-        }
-        PairAt::None
+        self.kept().get(i).copied()
     }
 
     // ---- writing
 
-    fn ids_known(self, list: &[[u16; 3]]) -> bool
-        requires { list_good list.now ≡ true }
-        ensures { result ≡ ids_known list.now (pairs_of self) }
+    fn ids_known(&self, list: &[[u16; 3]]) -> bool
+        ensures { result ≡ ids_known list.now (pairs_of self.now) }
     {
-        let n = self.used();
-        let pairs = self.pairs;
-        let mut i: usize = 0;
-        while i < n {
-            let pair = pairs[i];
-            let row = row_of(list, pair.id);
-            if param_value::octets_for(row[1], row[2]) == 0 {
-                return false;
-            }
-            i += 1;
-        }
-        true
+        self.kept()
+            .iter()
+            .all(|pair| find_row(list, pair.id).is_some())
     }
 
     // The octets of the pairs; 24.
-    fn pairs_len(self, list: &[[u16; 3]]) -> SizeResult
-        ensures { size_answer result ≡ length_of (pairs_octets list.now (pairs_of self)) }
+    fn pairs_len(&self, list: &[[u16; 3]]) -> Result<usize, PusError>
+        requires { ids_known list.now (pairs_of self.now) ≡ true }
+        ensures value { answer_of result ≡ length_of (pairs_octets list.now (pairs_of self.now)) }
+        ensures bound { IfOk result (λ n. n ≤ 2550) }
     {
-        let n = self.used();
-        let pairs = self.pairs;
-        let mut total: usize = 0;
-        let mut i: usize = 0;
-        while i < n {
-            let len = pair_len(list, pairs[i]);
-            let SizeResult::Ok(octets) = len else {
-                return len;
-            };
-            total += octets;
-            i += 1;
+        let mut total = 0;
+        for &pair in self.kept() {
+            total += pair_len(list, pair)?;
         }
-        SizeResult::Ok(total)
+        Ok(total)
     }
 
     // The octets of the request; 21, 22, 24.
-    pub fn len_written(self, list: &[[u16; 3]]) -> SizeResult
-        ensures { size_answer result ≡ length_of (record_octets list.now self) }
+    #[tactic(auto, unfolding(space_packet::specs::Answer::and_then, space_packet::specs::Answer::refuse_if, crate::specs::Request::request_octets, crate::specs::Request::length_of))]
+    pub fn len_written(&self, list: &[[u16; 3]]) -> Result<usize, PusError>
+        ensures { answer_of result ≡ length_of (record_octets list.now self.now) }
     {
-        let check = check_list(list);
-        if let CheckResult::Err(e) = check {
-            return SizeResult::Err(e);
-        }
+        check_list(list)?;
         if !self.ids_known(list) {
-            return SizeResult::Err(PusError::UnknownParameter);
+            return Err(PusError::UnknownParameter);
         }
         if 255 < self.count {
-            return SizeResult::Err(PusError::ParameterValue);
+            return Err(PusError::ParameterValue);
         }
-        let len = self.pairs_len(list);
-        let SizeResult::Ok(octets) = len else {
-            return len;
-        };
-        SizeResult::Ok(1 + octets)
+        Ok(1 + self.pairs_len(list)?)
     }
 
     // Writes the pairs behind the first octet of a buffer that has room for them.
-    fn put_pairs(self, list: &[[u16; 3]], buf: &mut [u8])
-        requires { HasRoom (pairs_octets list.now (pairs_of self)) 1 (length buf.old) }
-        ensures { buf.new ≡ take 1 buf.old ++ given_by (pairs_octets list.now (pairs_of self)) ++ drop (1 + length (given_by (pairs_octets list.now (pairs_of self)))) buf.old }
+    fn put_pairs(&self, list: &[[u16; 3]], buf: &mut [u8])
+        requires { HasRoom (pairs_octets list.now (pairs_of self.now)) 1 (length buf.old) }
+        ensures { buf.new ≡ take 1 buf.old ++ given_by (pairs_octets list.now (pairs_of self.now)) ++ drop (1 + length (given_by (pairs_octets list.now (pairs_of self.now)))) buf.old }
     {
-        let n = self.used();
-        let pairs = self.pairs;
-        let mut at: usize = 1;
-        let mut i: usize = 0;
-        while i < n {
-            at += put_pair(list, pairs[i], &mut buf[at..]);
-            i += 1;
+        let mut at = 1;
+        for &pair in self.kept() {
+            at += put_pair(list, pair, &mut buf[at..]);
         }
     }
 
     // Writes the application data of the request over the first octets of a buffer; 21, 22, 24, 1.
-    pub fn write_to_slice(self, list: &[[u16; 3]], buf: &mut [u8]) -> SizeResult
-        ensures { Wrote (write_in list.now self (length buf.old)) (given_by (record_octets list.now self)) buf.old result buf.new }
+    #[tactic(auto, unfolding(space_packet::specs::Answer::and_then, space_packet::specs::Answer::refuse_if, param_value::specs::Octets::size_in, crate::specs::Request::length_of))]
+    pub fn write_to_slice(&self, list: &[[u16; 3]], buf: &mut [u8]) -> Result<usize, PusError>
+        ensures { Wrote (write_in list.now self.now (length buf.old)) (given_by (record_octets list.now self.now)) buf.old result buf.new }
     {
-        let len = self.len_written(list);
-        let SizeResult::Ok(total) = len else {
-            return len;
-        };
+        let total = self.len_written(list)?;
         if buf.len() < total {
-            return SizeResult::Err(PusError::ByteConversion(
-                ByteConversionError::ToSliceTooSmall {
-                    found: buf.len(),
-                    expected: total,
-                },
-            ));
+            return Err(PusError::ByteConversion(ByteConversionError::ToSliceTooSmall {
+                found: buf.len(),
+                expected: total,
+            }));
         }
         buf[0] = self.count as u8;
         self.put_pairs(list, buf);
-        SizeResult::Ok(total)
+        Ok(total)
     }
 }
 
 // The octets of a pair; 24.
-fn pair_len(list: &[[u16; 3]], pair: Pair) -> SizeResult
-    ensures { size_answer result ≡ length_of (pair_octets list.now pair) }
+#[tactic(auto, using(param_value::proofs::Types::octets_le, param_value::proofs::Calls::octets_length), unfolding(space_packet::specs::Answer::and_then, param_value::specs::Values::value_octets, crate::specs::Request::pair_octets, crate::specs::Request::length_of))]
+fn pair_len(list: &[[u16; 3]], pair: Pair) -> Result<usize, PusError>
+    requires { known list.now pair.id ≡ true }
+    ensures { answer_of result ≡ length_of (pair_octets list.now pair) }
 {
-    let row = row_of(list, pair.id);
-    let value = pair.value;
-    let pattern = param_value::pattern_of(row[1], row[2], value);
-    match pattern {
-        PatternResult::Err(e) => SizeResult::Err(e),
-        PatternResult::Ok(_) => SizeResult::Ok(2 + param_value::octets_for(row[1], row[2])),
-    }
+    let [_, ptc, pfc] = find_row(list, pair.id).unwrap();
+    param_value::pattern_of(ptc, pfc, pair.value)?;
+    Ok(2 + param_value::octets_for(ptc, pfc))
 }
 
 // Writes a pair over the first octets of a part that has room for it, and answers how many they are.
@@ -367,10 +265,8 @@ fn put_pair(list: &[[u16; 3]], pair: Pair, part: &mut [u8]) -> usize
     requires { HasRoom (pair_octets list.now pair) 0 (length part.old) }
     ensures { (result ≡ length (given_by (pair_octets list.now pair))) × (part.new ≡ given_by (pair_octets list.now pair) ++ drop (length (given_by (pair_octets list.now pair))) part.old) }
 {
-    let row = row_of(list, pair.id);
-    part[0] = (pair.id / 256) as u8;
-    part[1] = (pair.id % 256) as u8;
-    let value = pair.value;
-    param_value::write_value(row[1], row[2], value, &mut part[2..]);
-    2 + param_value::octets_for(row[1], row[2])
+    let [_, ptc, pfc] = find_row(list, pair.id).unwrap();
+    let (id, value) = part.split_at_mut(2);
+    id.copy_from_slice(&pair.id.to_be_bytes());
+    2 + param_value::write_value(ptc, pfc, pair.value, value).unwrap()
 }

@@ -6,9 +6,10 @@ use mathlib.Core.Bool.{Bool, true, false}
 use mathlib.Core.List.{List}
 use lib.ListN.{length, drop}
 use lib.Seq.{take-append_seam}
-use Rattle.space_packet.specs.Answer.{Answer, Kept, gives, refuses, check_answer}
+use Rattle.std.specs.Prelude.{Result}
+use Rattle.space_packet.specs.Answer.{answer_of, outcome, Answer, Kept, gives, refuses}
+use Rattle.space_packet.specs.declared.PusError.{PusError}
 use Rattle.space_packet.specs.Fields.{is_idle}
-use Rattle.space_packet.specs.declared.SizeResult.{SizeResult}
 use Rattle.space_packet.specs.declared.SpacePacketHeader.{SpacePacketHeader}
 use Rattle.space_packet.proofs.Answers.{gives-inj, never, then-gives, gives_then}
 use Rattle.ecss.specs.Frame.{Octets}
@@ -30,10 +31,9 @@ use Rattle.tc_strict.specs.Verdict.{strict_in}
 use Rattle.tc_demand3.specs.Rules.{Telecommand, report_for}
 use Rattle.tc_demand3.proofs.Demand3.{exactly, reports, reader-reports, reported-data, made-under-rules, written-accepted}
 use Rattle.params.specs.Parameters.{Row}
-use Rattle.params.specs.Request.{holding, pairs_of, read_request, kept_of, params_kept}
+use Rattle.params.specs.Request.{holding, pairs_of, read_request, kept_of}
 use Rattle.params.specs.declared.Pair.{Pair}
 use Rattle.params.specs.declared.Params.{Params}
-use Rattle.params.specs.declared.ParamsRead.{ParamsRead}
 use Rattle.params_exact.specs.Requests.{request_for, HeldAll}
 use Rattle.params_exact.specs.Command.{Commands, Reads, Sendable}
 use Rattle.params_exact.proofs.Inverse.{read-written, written_read}
@@ -88,18 +88,18 @@ kept_gives (gives qs) ps e = ap gives (sym (pairs-held qs) ∙ ap (λ (z : Kept 
 kept_gives (refuses n) ps e = absurd (never tt n (ap (λ (z : Kept Params). z.passed) e))
 
 -- what reading answers of a record
-pub read_told : (l : List Row) (d : List ℕ) (k : ParamsRead) → params_kept k ≡ kept_of (read_request l d) → check_answer k.result ≡ gives tt → read_request l d ≡ gives (pairs_of k.params)
-read_told l d k e h =
+pub read_told : (l : List Row) (d : List ℕ) (p : Params) (r : Result (Unit {0}) PusError) → outcome r p ≡ kept_of (read_request l d) → answer_of r ≡ gives tt → read_request l d ≡ gives (pairs_of p)
+read_told l d p r e h =
     kept-pairs (read_request l d) (sym (ap (λ (z : Kept Params). z.passed) e) ∙ h) ∙ ap (λ (z : Kept Params). gives (pairs_of z.kept)) (sym e)
 
 -- what a write of the command leaves is read as its pairs
-pub sent-read : (f : TcForm) → form_check f ≡ gives tt → (l : List Row) (ps : List Pair) (p : Telecommand) (before after : List ℕ) (r : SizeResult) → HeldAll ps → request_for l ps ≡ gives p.user
+pub sent-read : (f : TcForm) → form_check f ≡ gives tt → (l : List Row) (ps : List Pair) (p : Telecommand) (before after : List ℕ) (r : Result ℕ PusError) → HeldAll ps → request_for l ps ≡ gives p.user
     → Rules (tc f) p → Accepted (tc f) (report_for f) (strict_in f) p before r after → read_request l (app_data_in f after true) ≡ gives ps
 sent-read f good l ps p before after r w q u a =
     ap (read_request l) (reader-reports f good after p (record { rules = u; rest = _; octets = a.leaves })).2 ∙ read-written l ps p.user w q
 
 -- the creator has a checksum
-pub sent-accepted : (t : PusTcCreator) → form_check t.form ≡ gives tt → (d before after : List ℕ) (r : SizeResult) → t.has_checksum ≡ true
+pub sent-accepted : (t : PusTcCreator) → form_check t.form ≡ gives tt → (d before after : List ℕ) (r : Result ℕ PusError) → t.has_checksum ≡ true
     → Rules (tc t.form) (packet_by t.sp_header t.sec_header d) → Room (tc t.form) d before → PacketWrote t d before r after
     → Accepted (tc t.form) (report_for t.form) (strict_in t.form) (packet_by t.sp_header t.sec_header d) before r after
 sent-accepted t good d before after r h u m w =

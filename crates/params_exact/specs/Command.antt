@@ -1,6 +1,6 @@
 -- A command as a whole: a telecommand of service 20, subtype 3, whose application data are the octets of pairs.
 use Rattle.std.specs.Prelude.{ℕ, ◌≡◌, true, List}
-use Rattle.space_packet.specs.Answer.{gives}
+use Rattle.space_packet.specs.Answer.{answer_of, gives, outcome}
 use Rattle.ecss.specs.Kind.{BeginsWith, Rules}
 use Rattle.ecss.specs.declared.MessageTypeId.{MessageTypeId}
 use Rattle.ecss_write.specs.Writer.{packet_by}
@@ -10,11 +10,11 @@ use Rattle.tc_header.specs.Header.{tc}
 use Rattle.tc_header.specs.declared.TcForm.{TcForm}
 use Rattle.tc_read.specs.Read.{app_data_in}
 use Rattle.tc_read.specs.declared.PusTcRecord.{PusTcRecord}
-use Rattle.tc_strict.specs.Verdict.{strict_in, verdict_answer}
+use Rattle.tc_strict.specs.Verdict.{strict_in}
 use Rattle.tc_write.specs.declared.PusTcCreator.{PusTcCreator}
 use Rattle.tc_demand3.specs.Rules.{Telecommand, Accepts}
 use Rattle.params.specs.Parameters.{Row}
-use Rattle.params.specs.Request.{read_request, kept_of, params_kept}
+use Rattle.params.specs.Request.{read_request, kept_of}
 use Rattle.params.specs.declared.Pair.{Pair}
 use Rattle.params_exact.specs.Requests.{request_for, HeldAll}
 use Rattle.params_exact.specs.declared.Told.{Told}
@@ -40,9 +40,9 @@ module _ (f : TcForm) (l : List Row) (s : List ℕ) (ps : List Pair) where
 -- the calls' answers: a command of that type is accepted, and these pairs are read
 pub record Tells (r : Told) (ps : List Pair) : Type 0 where
   pub record_of : PusTcRecord
-  pub accepted : verdict_answer r.verdict ≡ gives record_of
+  pub accepted : answer_of r.verdict ≡ gives record_of
   pub type-is : record_of.sec_header.message_type_id ≡ set_request
-  pub read : params_kept r.read ≡ kept_of (gives ps)
+  pub read : outcome r.read.result r.read.params ≡ kept_of (gives ps)
 
 -- they tell pairs of octets exactly if these begin with the command of just those pairs
 pub record Received (f : TcForm) (l : List Row) (s : List ℕ) (r : Told) : Type 0 where
@@ -60,4 +60,4 @@ module _ (t : PusTcCreator) (d : List ℕ) where
   -- the verdict accepts it, and its data are read as these pairs
   pub record Arrives (ps : List Pair) (r : Told) : Type 0 where
     pub accepted : Accepts t.form r.verdict (packet_by t.sp_header t.sec_header d)
-    pub read : params_kept r.read ≡ kept_of (gives ps)
+    pub read : outcome r.read.result r.read.params ≡ kept_of (gives ps)

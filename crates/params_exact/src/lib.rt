@@ -6,31 +6,46 @@
 #![tactic(auto)]
 
 ghost use Rattle.std.specs.Prelude.{◌≡◌, List, ◌++◌, ℕ, ◌≤◌, length, drop};
-ghost use Rattle.space_packet.specs.Answer.{gives, check_answer, size_answer};
-ghost use Rattle.params.specs.Request.{pairs_of, read_in, record_octets, kept_of, params_kept};
+ghost use Rattle.space_packet.specs.Answer.{gives, answer_of, outcome};
+ghost use Rattle.params.specs.Request.{pairs_of, read_in, record_octets, kept_of};
 ghost use Rattle.params.specs.declared.Pair.{Pair};
 ghost use Rattle.params_exact.specs.Requests.{request_for, HeldAll};
 ghost use Rattle.params_exact.specs.Command.{Received, Sendable, Arrives};
 
 use ecss::frame;
-use params::{Params, ParamsRead};
-use space_packet::SizeResult;
+use params::Params;
+use space_packet::PusError;
 use tc_header::TcForm;
-use tc_strict::Verdict;
+use tc_read::PusTcRecord;
 use tc_write::PusTcCreator;
+
+// What was read, and whether it was refused.
+#[derive(Clone, Copy)]
+struct ParamsRead {
+    params: Params,
+    result: Result<(), PusError>,
+}
 
 // What was read, and what a write of it answers.
 #[derive(Clone, Copy)]
 struct Rewritten {
     read: ParamsRead,
-    written: SizeResult,
+    written: Result<usize, PusError>,
 }
 
 // The verdict on octets, and the pairs that their data are read as.
 #[derive(Clone, Copy)]
 struct Told {
-    verdict: Verdict,
+    verdict: Result<PusTcRecord, PusError>,
     read: ParamsRead,
+}
+
+fn read_params(list: &[[u16; 3]], data: &[u8]) -> ParamsRead
+    ensures { outcome result.result result.params ≡ read_in list.now «data».now }
+{
+    let mut params = Params::new();
+    let result = params.read(list, data);
+    ParamsRead { params, result }
 }
 
 // ---- a request
@@ -38,24 +53,20 @@ struct Told {
 // The pairs of a record, written, are read again as those pairs.
 fn again(params: Params, list: &[[u16; 3]], buf: &mut [u8]) -> ParamsRead
     ensures { (o : List ℕ) → record_octets list.now params ≡ gives o → length o ≤ length buf.old
-        → params_kept result ≡ kept_of (gives (pairs_of params)) }
+        → outcome result.result result.params ≡ kept_of (gives (pairs_of params)) }
 {
-    let written = params.write_to_slice(list, buf);
-    match written {
-        SizeResult::Ok(n) => Params::read(list, frame::front(buf, n)),
-        SizeResult::Err(_) => Params::read(list, frame::front(buf, 0)),
-    }
+    let n = params.write_to_slice(list, buf).unwrap_or(0);
+    read_params(list, frame::front(buf, n))
 }
 
 // Data that are read, written by their pairs, are those data.
 fn copied(list: &[[u16; 3]], data: &[u8], buf: &mut [u8]) -> Rewritten
-    ensures { (params_kept result.read ≡ read_in list.now «data».now) × (check_answer result.read.result ≡ gives tt → length «data».now ≤ length buf.old
-        → (size_answer result.written ≡ gives (length «data».now))
+    ensures { (outcome result.read.result result.read.params ≡ read_in list.now «data».now) × (answer_of result.read.result ≡ gives tt → length «data».now ≤ length buf.old
+        → (answer_of result.written ≡ gives (length «data».now))
         × (buf.new ≡ «data».now ++ drop (length «data».now) buf.old)) }
 {
-    let read = Params::read(list, data);
-    let params = read.params;
-    let written = params.write_to_slice(list, buf);
+    let read = read_params(list, data);
+    let written = read.params.write_to_slice(list, buf);
     Rewritten { read, written }
 }
 
@@ -66,7 +77,7 @@ fn received(form: TcForm, list: &[[u16; 3]], octets: &[u8]) -> Told
     ensures { Received form list.now octets.now result }
 {
     let verdict = tc_strict::judge_in(form, octets);
-    let read = Params::read(list, tc_read::app_data_in(form, octets, true));
+    let read = read_params(list, tc_read::app_data_in(form, octets, true));
     Told { verdict, read }
 }
 
@@ -75,10 +86,10 @@ fn carried(creator: PusTcCreator, list: &[[u16; 3]], data: &[u8], buf: &mut [u8]
     ensures { (ps : List Pair) → HeldAll ps → request_for list.now ps ≡ gives «data».now
         → Sendable creator «data».now buf.old → Arrives creator «data».now ps result }
 {
-    creator.write_to_slice(data, buf);
+    let _ = creator.write_to_slice(data, buf);
     let form = creator.form();
     let verdict = tc_strict::judge_in(form, buf);
-    let read = Params::read(list, tc_read::app_data_in(form, buf, true));
+    let read = read_params(list, tc_read::app_data_in(form, buf, true));
     Told { verdict, read }
 }
 
@@ -93,9 +104,6 @@ fn sent(
     ensures { (o : List ℕ) → record_octets list.now params ≡ gives o → length o ≤ length room.old
         → Sendable creator o buf.old → Arrives creator o (pairs_of params) result }
 {
-    let written = params.write_to_slice(list, room);
-    match written {
-        SizeResult::Ok(n) => carried(creator, list, frame::front(room, n), buf),
-        SizeResult::Err(_) => carried(creator, list, frame::front(room, 0), buf),
-    }
+    let n = params.write_to_slice(list, room).unwrap_or(0);
+    carried(creator, list, frame::front(room, n), buf)
 }

@@ -5,11 +5,12 @@ use mathlib.Core.Bool.{true}
 use mathlib.Core.List.{List}
 use native.Mathlib.Omega.{arith}
 use lib.ListN.{length}
-use Rattle.space_packet.specs.Answer.{Answer, Numbers, Passed, gives, refuses, ◌then◌, size_answer, in_buffer}
+use Rattle.std.specs.Prelude.{Result}
+use Rattle.space_packet.specs.Answer.{Answer, Passed, gives, refuses, ◌then◌, in_buffer, and_then}
+use Rattle.space_packet.specs.declared.PusError.{PusError}
 use Rattle.space_packet.specs.Header.{packet_len, left_by}
 use Rattle.space_packet.specs.declared.SpacePacketHeader.{SpacePacketHeader}
-use Rattle.space_packet.specs.declared.SizeResult.{SizeResult}
-use Rattle.space_packet.proofs.Answers.{gives-inj, then-gives, gives_then, refuses-then, left-refused}
+use Rattle.space_packet.proofs.Answers.{gives-inj, then-gives, gives_then}
 use Rattle.ecss.specs.Version.{default_config}
 use Rattle.ecss.specs.declared.PusVersion.TheVariants.{PusC}
 use Rattle.ecss.proofs.Versions.{version-passes}
@@ -23,7 +24,7 @@ use Rattle.tc_write.specs.Creator.{creator_of, new_of, octets_for, write_of, Pac
 use Rattle.tc_write.specs.declared.PusTcCreator.{PusTcCreator}
 use Rattle.tc_write.proofs.Command.{writer-laws-c}
 use Rattle.profile.specs.Rules.{profile_rule}
-use Rattle.profile.specs.Builder.{header_for, sec_for, creator_for, header_with, length_with, write_for, octets_of, CommandWrote}
+use Rattle.profile.specs.Builder.{header_for, sec_for, creator_for, length_with, write_for, octets_of, CommandWrote}
 use Rattle.profile.specs.declared.ProfileTc.{ProfileTc}
 
 -- the creator c is made of the command and its data: every field is within its width, and the packet within the limit and the rules
@@ -35,7 +36,7 @@ pub record Made (t : ProfileTc) (d : List ℕ) (c : PusTcCreator) : Type 0 where
 
 -- what is asked after a size that is not refused
 then-passed : (a : Answer ℕ) (v : Passed) → v ≡ gives tt → (a then λ n. v then λ _. gives n) ≡ a
-unfolding ◌then◌
+unfolding and_then
 then-passed (refuses e) v p = refl
 then-passed (gives n) v p = gives_then _ _ tt p
 
@@ -82,13 +83,8 @@ module _ (t : ProfileTc) (d : List ℕ) where
         ∙ then-passed _ _ ((version-passes PusC PusC).1 refl)
         ∙ sym (gives_then _ _ _ length-is)
 
-    pub command-written : (before after : List ℕ) (r : SizeResult) → PacketWrote c d before r after → CommandWrote t d before r after
+    pub command-written : (before after : List ℕ) (r : Result ℕ PusError) → PacketWrote c d before r after → CommandWrote t d before r after
     command-written before after r w =
         let e = write-is (length before) in
         let o : octets_for c d ≡ octets_of t d = ap (λ (u : PusTcCreator). octets_for u d) (made c p).is in
         record { answered = w.answered ∙ e; left = w.left ∙ ap₂ (λ (a : Answer ℕ) (l : List ℕ). left_by a l before) e o }
-
-  pub command-refused : (before : List ℕ) (r : SizeResult) (e : Numbers) → creator_for t (length d) ≡ refuses e → size_answer r ≡ refuses e → CommandWrote t d before r before
-  command-refused before r e p q =
-      let a = refuses-then (length_with t (length d)) (in_buffer (length before)) e (refuses-then (header_with t (length d)) _ e (refuses-then _ _ e p)) in
-      record { answered = q ∙ sym a; left = sym (left-refused _ _ _ _ a) }

@@ -1,7 +1,8 @@
 -- The profile's commands and their builder. A command holds what a mission chooses, and nothing else can be said in it; its data d, or
 -- their number n, travel beside it.
-use Rattle.std.specs.Prelude.{ℕ, true, List, length}
-use Rattle.space_packet.specs.Answer.{Answer, Kept, gives, refuses, ◌then◌, numbers_of, check_answer, in_buffer}
+use Rattle.std.specs.Prelude.{ℕ, true, List, length, Result}
+use Rattle.space_packet.specs.Answer.{Answer, gives, ◌then◌, in_buffer}
+use Rattle.space_packet.specs.declared.PusError.{PusError}
 use Rattle.space_packet.specs.Header.{packet_len, header_of, id_from, psc_from}
 use Rattle.space_packet.specs.Wrote.{Wrote}
 use Rattle.space_packet.specs.declared.Apid.{Apid}
@@ -9,7 +10,6 @@ use Rattle.space_packet.specs.declared.PacketSequenceControl.{PacketSequenceCont
 use Rattle.space_packet.specs.declared.PacketType.TheVariants.{Tc}
 use Rattle.space_packet.specs.declared.SequenceFlags.TheVariants.{Unsegmented}
 use Rattle.space_packet.specs.declared.SpacePacketHeader.{SpacePacketHeader}
-use Rattle.space_packet.specs.declared.SizeResult.{SizeResult}
 use Rattle.ecss.specs.Kind.{Packet, packet_of}
 use Rattle.ecss.specs.Version.{message_type_of, default_config}
 use Rattle.ecss.specs.declared.MessageTypeId.{MessageTypeId}
@@ -24,10 +24,7 @@ use Rattle.tc_write.specs.Creator.{new_of}
 use Rattle.tc_write.specs.declared.PusTcCreator.{PusTcCreator}
 use Rattle.profile.specs.Rules.{profile_rule}
 use Rattle.profile.specs.declared.ProfileTc.{ProfileTc}
-use Rattle.profile.specs.declared.ProfileTcResult.{ProfileTcResult}
-use Rattle.profile.specs.declared.ProfileTcResult.TheVariants as R
 use Rattle.profile.specs.declared.ProfileBuilder.{ProfileBuilder}
-use Rattle.profile.specs.declared.ProfileBuilderSet.{ProfileBuilderSet}
 
 -- ---- a command
 
@@ -72,12 +69,8 @@ length_with t n = header_with t n then λ h. gives (packet_len h)
 abbrev pub write_for : ProfileTc → ℕ → ℕ → Answer ℕ
 write_for t n m = length_with t n then in_buffer m
 
-abbrev pub CommandWrote : ProfileTc → List ℕ → List ℕ → SizeResult → List ℕ → Type 0
+abbrev pub CommandWrote : ProfileTc → List ℕ → List ℕ → Result ℕ PusError → List ℕ → Type 0
 CommandWrote t d before r after = Wrote (write_for t (length d) (length before)) (octets_of t d) before r after
-
-abbrev pub command_answer : ProfileTcResult → Answer ProfileTc
-command_answer (R.Ok t) = gives t
-command_answer (R.Err e) = refuses (numbers_of e)
 
 -- ---- the builder
 
@@ -106,7 +99,3 @@ with_source b n = let t = b.0 in builder_of (command_from t.apid t.psc t.message
 
 abbrev pub with_ack : ProfileBuilder → AckFlags → ProfileBuilder
 with_ack b k = let t = b.0 in builder_of (command_from t.apid t.psc t.message_type_id t.source_id k)
-
--- an edit is refused for what is handed in only, and then hands back the old builder
-abbrev pub builder_kept : ProfileBuilderSet → Kept ProfileBuilder
-builder_kept r = record { passed = check_answer r.result; kept = r.builder }

@@ -6,11 +6,12 @@ use mathlib.Core.List.{List, ◌++◌}
 use native.Mathlib.Omega.{arith}
 use lib.ListN.{length, take, drop}
 use borrow.Author.Tests.{ne_eqb, le-ltb}
-use Rattle.space_packet.specs.Answer.{Passed, Kept, gives, set_if, size_answer}
+use Rattle.std.specs.Prelude.{Result}
+use Rattle.space_packet.specs.Answer.{answer_of, outcome, Passed, Kept, gives, set_if}
+use Rattle.space_packet.specs.declared.PusError.{PusError}
 use Rattle.space_packet.specs.Fields.{apid_check, count_check}
 use Rattle.space_packet.specs.declared.Apid.{Apid}
 use Rattle.space_packet.specs.declared.PacketSequenceControl.{PacketSequenceControl}
-use Rattle.space_packet.specs.declared.SizeResult.{SizeResult}
 use Rattle.space_packet.proofs.Answers.{gives-inj, then-gives, gives_then, refuse-no, range-passes, left-written}
 use Rattle.ecss.specs.Frame.{Octets}
 use Rattle.ecss.specs.declared.MessageTypeId.{MessageTypeId}
@@ -32,10 +33,9 @@ use Rattle.tc_read.specs.declared.PusTcRecord.{PusTcRecord}
 use Rattle.tc_demand3.specs.Rules.{Telecommand, report_for}
 use Rattle.tc_demand3.proofs.Demand3.{reports, reader-reports, exactly-c, written-again}
 use Rattle.profile.specs.Rules.{profile_rule, profile_of}
-use Rattle.profile.specs.Builder.{command_from, header_for, sec_for, command_of, octets_of, creator_for, built_for, header_with, length_with, write_for, CommandWrote, builder_of, with_apid, with_psc, with_type, with_source, with_ack, builder_kept}
+use Rattle.profile.specs.Builder.{command_from, header_for, sec_for, command_of, octets_of, creator_for, built_for, header_with, length_with, write_for, CommandWrote, builder_of, with_apid, with_psc, with_type, with_source, with_ack}
 use Rattle.profile.specs.declared.ProfileTc.{ProfileTc}
 use Rattle.profile.specs.declared.ProfileBuilder.{ProfileBuilder}
-use Rattle.profile.specs.declared.ProfileBuilderSet.{ProfileBuilderSet}
 use Rattle.profile.proofs.Commands.{made, length-is}
 use Rattle.profile_exact.specs.Within.{Fitting, fields_of, Again}
 use Rattle.profile_exact.proofs.Exactly.{rule-within, profile-gives, gives-profile}
@@ -65,9 +65,9 @@ module _ (t : ProfileTc) (d : List ℕ) (c : PusTcCreator) (p : creator_for t (l
       (reports form_c taken-c _ (command_of t d) (record { rules = under-rules; rest = rest; octets = refl }))
       (made t d c p).ruled
 
-module _ (t : ProfileTc) (d before after : List ℕ) (r : SizeResult) where
+module _ (t : ProfileTc) (d before after : List ℕ) (r : Result ℕ PusError) where
   -- Whatever octets the write leaves as written are accepted: for every command, all data and every buffer.
-  pub written-accepted : (n : ℕ) → CommandWrote t d before r after → size_answer r ≡ gives n
+  pub written-accepted : (n : ℕ) → CommandWrote t d before r after → answer_of r ≡ gives n
       → (n ≡ total_for pus_c d) × (profile_of after ≡ gives (report_for form_c (command_of t d)))
   written-accepted n w e =
       let a = sym w.answered ∙ e in
@@ -78,7 +78,7 @@ module _ (t : ProfileTc) (d before after : List ℕ) (r : SizeResult) where
       ((in-buffer-is (length before) l.0 n l.2).0 ∙ i, ap profile_of (w.left ∙ left-written _ _ _ _ a) ∙ made-accepted t d k.0 k.1 _)
 
   -- In a buffer with room it leaves them.
-  pub built-written : (u : ProfileTc) → built_for t (length d) ≡ gives u → total_for pus_c d ≤ length before → CommandWrote u d before r after → size_answer r ≡ gives (total_for pus_c d)
+  pub built-written : (u : ProfileTc) → built_for t (length d) ≡ gives u → total_for pus_c d ≤ length before → CommandWrote u d before r after → answer_of r ≡ gives (total_for pus_c d)
   built-written u p f w =
       let k = then-gives (creator_for t (length d)) _ u p in
       let e = gives-inj t u k.2 in
@@ -160,7 +160,7 @@ accepted-built s r o a =
     )
 
 -- Written, it is those octets again.
-pub written_back : (s : List ℕ) (r : PusTcRecord) (before after : List ℕ) (z : SizeResult) → Octets s → profile_of s ≡ gives r → r.total ≤ length before
+pub written_back : (s : List ℕ) (r : PusTcRecord) (before after : List ℕ) (z : Result ℕ PusError) → Octets s → profile_of s ≡ gives r → r.total ≤ length before
     → CommandWrote (fields_of r) (app_data_of s true) before z after → Again s r.total before z after
 written_back s r before after z o a f w =
     let k = accepted-built s r o a in
@@ -174,9 +174,9 @@ written_back s r before after z o a f w =
 -- ---- by the setters
 
 -- a setter that is not refused
-set-passed : (s : ProfileBuilderSet) (p : Passed) (old new : ProfileBuilder) → builder_kept s ≡ set_if p old new → p ≡ gives tt → s.builder ≡ new
+set-passed : (x : Result (Unit {0}) PusError) (b : ProfileBuilder) (p : Passed) (old new : ProfileBuilder) → outcome x b ≡ set_if p old new → p ≡ gives tt → b ≡ new
 unfolding set_if
-set-passed s p old new e q = ap (λ (k : Kept ProfileBuilder). k.kept) e ∙ ap (λ (z : Passed). (set_if z old new).kept) q
+set-passed x b p old new e q = ap (λ (k : Kept ProfileBuilder). k.kept) e ∙ ap (λ (z : Passed). (set_if z old new).kept) q
 
 fitting : (s : List ℕ) (r : PusTcRecord) → Octets s → profile_of s ≡ gives r → Fitting r
 fitting s r o a =
@@ -189,22 +189,22 @@ fitting s r o a =
       ack = (range-passes 4 15 _).1 v.fits.ack-fits;
     })
 
-pub by-setters : (sourced typed first : ProfileBuilder) (named counted asking : ProfileBuilderSet) (r : PusTcRecord) {m : MessageTypeId} {n : ℕ} {a : Apid} {p : PacketSequenceControl} {k : AckFlags}
+pub by-setters : (first typed sourced named counted asking : ProfileBuilder) (x y z : Result (Unit {0}) PusError) (r : PusTcRecord) {m : MessageTypeId} {n : ℕ} {a : Apid} {p : PacketSequenceControl} {k : AckFlags}
     → m ≡ r.sec_header.message_type_id → n ≡ r.sec_header.source_id → a ≡ r.sp_header.packet_id.apid → p ≡ r.sp_header.psc → k ≡ r.sec_header.ack_flags
-    → typed ≡ with_type first m → sourced ≡ with_source typed n → builder_kept named ≡ set_if (apid_check a) sourced (with_apid sourced a)
-    → builder_kept counted ≡ set_if (count_check p.seq_count) named.builder (with_psc named.builder p)
-    → builder_kept asking ≡ set_if (ack_check k) counted.builder (with_ack counted.builder k) → Fitting r → asking.builder ≡ builder_of (fields_of r)
-by-setters sourced typed first named counted asking r {m = m} {n = n} {a = a} {p = p} {k = k} em en ea ep ek et es ei ec eq f =
-    let i = set-passed named _ _ _ ei (ap apid_check ea ∙ f.apid) in
-    let c = set-passed counted _ _ _ ec (ap (λ (z : PacketSequenceControl). count_check z.seq_count) ep ∙ f.count) in
-    set-passed asking _ _ _ eq (ap ack_check ek ∙ f.ack)
+    → typed ≡ with_type first m → sourced ≡ with_source typed n → outcome x named ≡ set_if (apid_check a) sourced (with_apid sourced a)
+    → outcome y counted ≡ set_if (count_check p.seq_count) named (with_psc named p)
+    → outcome z asking ≡ set_if (ack_check k) counted (with_ack counted k) → Fitting r → asking ≡ builder_of (fields_of r)
+by-setters first typed sourced named counted asking x y z r {m = m} {n = n} {a = a} {p = p} {k = k} em en ea ep ek et es ei ec eq f =
+    let i = set-passed x named _ _ _ ei (ap apid_check ea ∙ f.apid) in
+    let c = set-passed y counted _ _ _ ec (ap (λ (z : PacketSequenceControl). count_check z.seq_count) ep ∙ f.count) in
+    set-passed z asking _ _ _ eq (ap ack_check ek ∙ f.ack)
     ∙ ap (λ (b : ProfileBuilder). with_ack b k)
     (c ∙ ap (λ (b : ProfileBuilder). with_psc b p)
     (i ∙ ap (λ (b : ProfileBuilder). with_apid b a) (es ∙ ap (λ (b : ProfileBuilder). with_source b n) et)))
     ∙ (λ j. builder_of (command_from (ea j) (ep j) (em j) (en j) (ek j)))
 
 -- so what is made of an accepted packet, by setters that are given what is reported of it, is the packet
-pub copied-written : (s : List ℕ) (p r : PusTcRecord) (b : ProfileBuilder) (d before after : List ℕ) (z : SizeResult) → Octets s → profile_of s ≡ gives p → p.total ≤ length before
+pub copied-written : (s : List ℕ) (p r : PusTcRecord) (b : ProfileBuilder) (d before after : List ℕ) (z : Result ℕ PusError) → Octets s → profile_of s ≡ gives p → p.total ≤ length before
     → r ≡ p → (Fitting r → b ≡ builder_of (fields_of r)) → d ≡ app_data_of s true
     → ((t : ProfileTc) → built_for b.0 (length d) ≡ gives t → CommandWrote t d before z after) → Again s p.total before z after
 copied-written s p r b d before after z o a f e k ed w =

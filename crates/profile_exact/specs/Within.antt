@@ -1,11 +1,11 @@
 -- What is asked of the profile: its rules, each a sentence; its verdict, which accepts exactly the strictly accepted packets that meet
 -- them; and its builder, which makes those and no others.
-use Rattle.std.specs.Prelude.{ℕ, ◌+◌, ◌-◌, ◌≤◌, ◌<◌, ◌≡◌, ◌↔◌, true, List, ◌++◌, length, take, drop}
-use Rattle.space_packet.specs.Answer.{Answer, Numbers, gives, refuses, size_answer}
+use Rattle.std.specs.Prelude.{ℕ, ◌+◌, ◌-◌, ◌≤◌, ◌<◌, ◌≡◌, ◌↔◌, true, List, ◌++◌, length, take, drop, Result}
+use Rattle.space_packet.specs.Answer.{answer_of, Answer, Numbers, gives, refuses}
+use Rattle.space_packet.specs.declared.PusError.{PusError}
 use Rattle.space_packet.specs.Fields.{apid_check, count_check}
 use Rattle.space_packet.specs.declared.SequenceFlags.TheVariants.{Unsegmented}
 use Rattle.space_packet.specs.declared.SpacePacketHeader.{SpacePacketHeader}
-use Rattle.space_packet.specs.declared.SizeResult.{SizeResult}
 use Rattle.detect.specs.Errors.{UpToThree}
 use Rattle.ecss.specs.Kind.{BeginsWith}
 use Rattle.exactness.specs.Changed.{ChangedIn}
@@ -14,7 +14,7 @@ use Rattle.tc_header.specs.Form.{form_c}
 use Rattle.tc_header.specs.Header.{ack_check, pus_c}
 use Rattle.tc_header.specs.declared.PusTcSecondaryHeader.{PusTcSecondaryHeader}
 use Rattle.tc_read.specs.declared.PusTcRecord.{PusTcRecord}
-use Rattle.tc_strict.specs.Verdict.{strict_of, verdict_answer}
+use Rattle.tc_strict.specs.Verdict.{strict_of}
 use Rattle.tc_demand3.specs.Rules.{Telecommand, report_for}
 use Rattle.profile.specs.Rules.{is_service, asks_for_acceptance, service_of}
 use Rattle.profile.specs.Builder.{command_from, command_of}
@@ -58,12 +58,12 @@ RefusesAnyThree = RefusesIf (ChangedIn UpToThree)
 
 -- what a write answered and the verdict on the buffer that it left: the command with the data d was written, and is accepted
 pub record IsAccepted (t : ProfileTc) (d : List ℕ) (r : Outcome) : Type 0 where
-  pub answers : size_answer r.size ≡ gives (total_for pus_c d)
-  pub accepted : verdict_answer r.verdict ≡ gives (report_for form_c (command_of t d))
+  pub answers : answer_of r.size ≡ gives (total_for pus_c d)
+  pub accepted : answer_of r.verdict ≡ gives (report_for form_c (command_of t d))
 
 -- so it is, where octets were written at all
 abbrev pub AcceptedIfWritten : ProfileTc → List ℕ → Outcome → Type 0
-AcceptedIfWritten t d r = (n : ℕ) → size_answer r.size ≡ gives n → IsAccepted t d r
+AcceptedIfWritten t d r = (n : ℕ) → answer_of r.size ≡ gives n → IsAccepted t d r
 
 -- what is reported is within its widths, so that no setter refuses it
 pub record Fitting (r : PusTcRecord) : Type 0 where
@@ -78,6 +78,6 @@ fields_of r =
     r.sec_header.source_id r.sec_header.ack_flags
 
 -- the buffer begins with the octets of the packet that s begins with, n of them, and behind them is as it was
-pub record Again (s : List ℕ) (n : ℕ) (before : List ℕ) (r : SizeResult) (after : List ℕ) : Type 0 where
-  pub answers : size_answer r ≡ gives n
+pub record Again (s : List ℕ) (n : ℕ) (before : List ℕ) (r : Result ℕ PusError) (after : List ℕ) : Type 0 where
+  pub answers : answer_of r ≡ gives n
   pub leaves : after ≡ take n s ++ drop n before

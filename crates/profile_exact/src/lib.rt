@@ -5,9 +5,8 @@
 #![tactic(auto)]
 
 ghost use Rattle.std.specs.Prelude.{◌≤◌, ◌≡◌, length};
-ghost use Rattle.space_packet.specs.Answer.{gives};
+ghost use Rattle.space_packet.specs.Answer.{gives, answer_of};
 ghost use Rattle.tc_header.specs.Header.{pus_c};
-ghost use Rattle.tc_strict.specs.Verdict.{verdict_answer};
 ghost use Rattle.tc_read.specs.declared.PusTcRecord.{PusTcRecord};
 ghost use Rattle.exactness.specs.Demand3.{RefusesChanged, total_for};
 ghost use Rattle.profile.specs.Rules.{profile_of};
@@ -16,45 +15,43 @@ ghost use Rattle.profile.specs.declared.ProfileTc.{ProfileTc};
 ghost use Rattle.profile_exact.specs.First.{TellsFirst};
 ghost use Rattle.profile_exact.specs.Within.{Exactly, RefusesAnyThree, AcceptedIfWritten, IsAccepted, Fitting, fields_of, Again};
 
-use profile::{ProfileBuilder, ProfileTc, ProfileTcResult};
-use space_packet::SizeResult;
+use ecss::PusPacket;
+use profile::{ProfileBuilder, ProfileTc};
+use space_packet::{CcsdsPacket, PusError};
 use tc_read::PusTcRecord;
-use tc_strict::Verdict;
 
 // ---- the verdict
 
-fn judged(octets: &[u8]) -> Verdict
-    ensures { Exactly (verdict_answer result) octets.now × TellsFirst (verdict_answer result) octets.now }
+fn judged(octets: &[u8]) -> Result<PusTcRecord, PusError>
+    ensures { Exactly (answer_of result) octets.now × TellsFirst (answer_of result) octets.now }
 {
     profile::judge(octets)
 }
 
 // Octets are judged, and so are the same with bits of them changed.
-#[derive(Clone, Copy)]
+#[derive(Clone, Copy, PartialEq, Eq)]
 struct Verdicts {
-    sent: Verdict,
-    received: Verdict,
+    sent: Result<PusTcRecord, PusError>,
+    received: Result<PusTcRecord, PusError>,
 }
 
 fn changed(sent: &[u8], received: &[u8]) -> Verdicts
-    ensures { RefusesChanged (verdict_answer result.sent) sent.now (verdict_answer result.received) received.now
-        × RefusesAnyThree (verdict_answer result.sent) sent.now (verdict_answer result.received) received.now }
+    ensures { RefusesChanged (answer_of result.sent) sent.now (answer_of result.received) received.now
+        × RefusesAnyThree (answer_of result.sent) sent.now (answer_of result.received) received.now }
 {
-    let first = profile::judge(sent);
-    let second = profile::judge(received);
     Verdicts {
-        sent: first,
-        received: second,
+        sent: profile::judge(sent),
+        received: profile::judge(received),
     }
 }
 
 // ---- what the builder makes is accepted
 
 // What a write answers, and the verdict on the buffer that it leaves.
-#[derive(Clone, Copy)]
+#[derive(Clone, Copy, PartialEq, Eq)]
 struct Outcome {
-    size: SizeResult,
-    verdict: Verdict,
+    size: Result<usize, PusError>,
+    verdict: Result<PusTcRecord, PusError>,
 }
 
 // Whatever the command holds, whatever the data and the buffer are.
@@ -67,15 +64,11 @@ fn written(command: ProfileTc, app_data: &[u8], buf: &mut [u8]) -> Outcome
 }
 
 // A builder's command, written: what its build refuses is not asked here.
-fn made(builder: ProfileBuilder, app_data: &[u8], buf: &mut [u8]) -> SizeResult
+fn made(builder: ProfileBuilder, app_data: &[u8], buf: &mut [u8]) -> Result<usize, PusError>
     ensures { (t : ProfileTc) → built_for builder.0 (length app_data.now) ≡ gives t
         → CommandWrote t app_data.now buf.old result buf.new }
 {
-    let made = builder.build(app_data);
-    match made {
-        ProfileTcResult::Err(e) => SizeResult::Err(e),
-        ProfileTcResult::Ok(command) => command.write_to_slice(app_data, buf),
-    }
+    builder.build(app_data)?.write_to_slice(app_data, buf)
 }
 
 // In any buffer with room.
@@ -94,23 +87,20 @@ fn built(builder: ProfileBuilder, app_data: &[u8], buf: &mut [u8]) -> Outcome
 fn copied(report: PusTcRecord) -> ProfileBuilder
     ensures { Fitting report → result ≡ builder_of (fields_of report) }
 {
-    let typed = ProfileBuilder::new().with_message_type_id(report.message_type_id());
-    let named = typed
-        .with_source_id(report.source_id())
-        .with_apid(report.apid());
-    let counted = named.builder.with_packet_sequence_control(report.psc());
-    let asking = counted.builder.with_ack_flags(report.ack_flags());
-    asking.builder
+    let mut builder = ProfileBuilder::new();
+    builder.with_message_type_id(report.message_type_id());
+    builder.with_source_id(report.source_id());
+    let _ = builder.with_apid(report.apid());
+    let _ = builder.with_packet_sequence_control(report.psc());
+    let _ = builder.with_ack_flags(report.ack_flags());
+    builder
 }
 
 // Octets that the verdict accepts are built anew, of what it reports and their data.
-fn again(octets: &[u8], buf: &mut [u8]) -> SizeResult
+fn again(octets: &[u8], buf: &mut [u8]) -> Result<usize, PusError>
     ensures { (p : PusTcRecord) → profile_of octets.now ≡ gives p → p.total ≤ length buf.old
         → Again octets.now p.total buf.old result buf.new }
 {
-    let v = profile::judge(octets);
-    match v {
-        Verdict::Refused(e) => SizeResult::Err(e),
-        Verdict::Accepted(report) => made(copied(report), tc_read::app_data(octets, true), buf),
-    }
+    let report = profile::judge(octets)?;
+    made(copied(report), tc_read::app_data(octets, true), buf)
 }

@@ -1,148 +1,153 @@
 // The fields of the line protocol (docs/PROTOCOL.md): what those of a request say, and those that answers are made of.
 //
-// A line is found good as a whole before anything is run. So each call that reads a field takes `good`, and makes it false where
-// the field is not of its kind; what it answers then means nothing.
+// A line is found good as a whole before anything is run: each call that reads a field answers None where it is not of its kind.
 #![tactic(auto)]
+
+ghost use Rattle.std.specs.Prelude.{◌+◌, length, unwrap_or, option_map};
+ghost use Rattle.std.specs.Iterator.{at_most};
 
 pub mod headers;
 pub mod items;
 pub mod show;
 
-use ecss::PusVersion;
+use ecss::{CreatorConfig, PusVersion};
 use space_packet::{PacketType, SequenceFlags};
-use text::Value;
 
 // ---- a line
 
-// Whether a line has so many fields, its kind among them.
-pub fn has(line: &[u8], count: usize) -> bool {
-    text::pieces(line, b' ') == count
+// What a separator stands between in a text, as far as it is not read yet; None behind the last piece.
+// The iterator of `split` has a closure in its type, which no signature can name.
+#[derive(Clone, Copy)]
+pub struct Pieces<'a> {
+    rest: Option<&'a [u8]>,
+    separator: u8,
 }
 
-// Field k of a line; its kind is field 0.
-pub fn field(line: &[u8], k: usize) -> &[u8] {
-    text::piece(line, b' ', k)
-}
-
-// What stands behind the first field of a line.
-pub fn behind(line: &[u8]) -> &[u8] {
-    let e = text::seek(line, 0, b' ');
-    if line.len() <= e {
-        return &line[..0];
-    }
-    &line[e + 1..]
-}
-
-// The place of a word among those that spaces separate, or how many these are.
-pub fn place(word: &[u8], words: &[u8]) -> usize {
-    let n = text::pieces(words, b' ');
-    let mut k = 0;
-    while k < n {
-        if check::same(word, text::piece(words, b' ', k)) {
-            return k;
+impl<'a> Pieces<'a> {
+    pub fn new(s: &'a [u8], separator: u8) -> Pieces<'a> {
+        Pieces {
+            rest: Some(s),
+            separator,
         }
-        k += 1;
     }
-    k
+
+    // The items of a list; `-` has none.
+    pub fn list(s: &'a [u8]) -> Pieces<'a> {
+        let mut items = Pieces::new(s, b';');
+        if let b"-" = s {
+            items.rest = None;
+        }
+        items
+    }
+
+    // These pieces, where each is one that `read` reads.
+    pub fn checked<T: Drop, R: Fn(&[u8]) -> Option<T>>(self, read: R) -> Option<Pieces<'a>>
+        requires { R.IsAlwaysCallable read }
+    {
+        for piece in self {
+            let _ = read(piece)?;
+        }
+        Some(self)
+    }
+
+    // None where there is a piece more.
+    pub fn end(&self) -> Option<()> {
+        match self.rest {
+            Some(_) => None,
+            None => Some(()),
+        }
+    }
 }
 
-// The place of a word among these, one of which it is to be.
-pub fn among(word: &[u8], words: &[u8], good: &mut bool) -> usize {
-    let k = place(word, words);
-    if k == text::pieces(words, b' ') {
-        *good = false;
+impl<'a> Iterator for Pieces<'a> {
+    type Item = &'a [u8];
+
+    ghost remaining = { λ p. at_most (unwrap_or (option_map (λ s. length s.now + 1) p.rest) 0) };
+
+    fn next(&mut self) -> Option<&'a [u8]> {
+        let rest = self.rest?;
+        let Some(end) = rest.iter().position(|c| *c == self.separator) else {
+            self.rest = None;
+            return Some(rest);
+        };
+        self.rest = Some(&rest[end + 1..]);
+        Some(&rest[..end])
     }
-    k
+}
+
+// The two pieces of a text that has two.
+pub fn pair(s: &[u8], separator: u8) -> Option<(&[u8], &[u8])> {
+    let mut pieces = Pieces::new(s, separator);
+    let pair = (pieces.next()?, pieces.next()?);
+    pieces.end()?;
+    Some(pair)
 }
 
 // ---- numbers
 
-// A number of at most `most`; where that is one digit, one character.
-pub fn number(s: &[u8], most: u64, good: &mut bool) -> u64 {
-    if most < 10 && s.len() != 1 {
-        *good = false;
+// A decimal that fits its type.
+pub fn number<T: TryFrom<u64>>(s: &[u8]) -> Option<T>
+where
+    T::Error: Drop,
+{
+    T::try_from(text::number(s)?).ok()
+}
+
+pub fn flag(s: &[u8]) -> Option<bool> {
+    match s {
+        b"0" => Some(false),
+        b"1" => Some(true),
+        _ => None,
     }
-    if let Value::Is(n) = text::number(s) {
-        if n <= most {
-            return n;
-        }
+}
+
+pub(crate) fn packet_type(s: &[u8]) -> Option<PacketType> {
+    match s {
+        b"0" => Some(PacketType::Tm),
+        b"1" => Some(PacketType::Tc),
+        _ => None,
     }
-    *good = false;
-    0
 }
 
-pub fn number8(s: &[u8], good: &mut bool) -> u8 {
-    low8(number(s, 255, good))
+pub(crate) fn seq_flags(s: &[u8]) -> Option<SequenceFlags> {
+    match s {
+        b"0" => Some(SequenceFlags::ContinuationSegment),
+        b"1" => Some(SequenceFlags::FirstSegment),
+        b"2" => Some(SequenceFlags::LastSegment),
+        b"3" => Some(SequenceFlags::Unsegmented),
+        _ => None,
+    }
 }
 
-pub fn number16(s: &[u8], good: &mut bool) -> u16 {
-    low16(number(s, 65535, good))
-}
-
-pub fn flag(s: &[u8], good: &mut bool) -> bool {
-    number(s, 1, good) == 1
-}
-
-pub(crate) fn low8(n: u64) -> u8 {
-    (n % 256) as u8
-}
-
-pub(crate) fn low16(n: u64) -> u16 {
-    (n % 65536) as u16
-}
-
-// ---- numbers as the library's types
-
-pub(crate) fn packet_type(n: u64) -> PacketType {
-    PacketType::new_with_raw_value(low8(n))
-}
-
-pub(crate) fn seq_flags(n: u64) -> SequenceFlags {
-    SequenceFlags::new_with_raw_value(low8(n))
-}
-
-pub(crate) fn version(n: u64) -> PusVersion {
-    match n {
-        0 => PusVersion::EsaPus,
-        1 => PusVersion::PusA,
-        _ => PusVersion::PusC,
+pub(crate) fn version(s: &[u8]) -> Option<PusVersion> {
+    match s {
+        b"0" => Some(PusVersion::EsaPus),
+        b"1" => Some(PusVersion::PusA),
+        b"2" => Some(PusVersion::PusC),
+        _ => None,
     }
 }
 
 // ---- octets
 
-// The octets of field k, at the start of room.
-pub fn octets<'a>(line: &[u8], k: usize, room: &'a mut [u8], good: &mut bool) -> &'a mut [u8] {
-    let n = decoded(field(line, k), room, good);
-    if room.len() < n {
-        return &mut room[0..];
-    }
-    &mut room[0..n]
+// The octets that a field writes, at the start of room, and the room behind them.
+pub fn octets<'a>(s: &[u8], room: &'a mut [u8]) -> Option<(&'a mut [u8], &'a mut [u8])> {
+    let n = text::octets(s, room)?;
+    room.split_at_mut_checked(n)
 }
 
-// Puts the octets that s writes at the start of room, and answers how many.
-pub fn decoded(s: &[u8], room: &mut [u8], good: &mut bool) -> usize {
-    let said = text::octets(s, room);
-    let Value::Is(n) = said else {
-        *good = false;
-        return 0;
-    };
-    n as usize
+// ---- how a packet is made, read and finished
+
+// set_ccsds_len has_checksum
+pub fn config(fields: &mut Pieces<'_>) -> Option<CreatorConfig> {
+    Some(CreatorConfig {
+        set_ccsds_len: flag(fields.next()?)?,
+        has_checksum: flag(fields.next()?)?,
+    })
 }
 
-// The four digits of a checksum.
-pub fn checksum(s: &[u8], good: &mut bool) -> u16 {
-    let Value::Is(n) = text::word(s) else {
-        *good = false;
-        return 0;
-    };
-    low16(n)
-}
-
-// ---- words
-
-// How a packet is read.
-#[derive(Clone, Copy)]
+// MODE, how a packet is read.
+#[derive(Clone, Copy, PartialEq, Eq)]
 pub enum Mode {
     New,
     NoTable,
@@ -151,27 +156,24 @@ pub enum Mode {
 }
 
 impl Mode {
-    pub fn read(line: &[u8], k: usize, good: &mut bool) -> Mode {
-        let place = among(field(line, k), b"new nt noverify nocrc", good);
-        match place {
-            0 => Mode::New,
-            1 => Mode::NoTable,
-            2 => Mode::NoVerify,
-            _ => Mode::NoCrc,
+    pub fn read(s: &[u8]) -> Option<Mode> {
+        match s {
+            b"new" => Some(Mode::New),
+            b"nt" => Some(Mode::NoTable),
+            b"noverify" => Some(Mode::NoVerify),
+            b"nocrc" => Some(Mode::NoCrc),
+            _ => None,
         }
     }
 
     // Whether the packet is taken to have a checksum.
     pub fn has_checksum(self) -> bool {
-        match self {
-            Mode::NoCrc => false,
-            _ => true,
-        }
+        self != Mode::NoCrc
     }
 }
 
-// How a reserved packet is finished.
-#[derive(Clone, Copy)]
+// FIN, how a reserved packet is finished.
+#[derive(Clone, Copy, PartialEq, Eq)]
 pub enum Fin {
     Finalize,
     NoTable,
@@ -179,12 +181,12 @@ pub enum Fin {
 }
 
 impl Fin {
-    pub fn read(line: &[u8], k: usize, good: &mut bool) -> Fin {
-        let place = among(field(line, k), b"f n c", good);
-        match place {
-            0 => Fin::Finalize,
-            1 => Fin::NoTable,
-            _ => Fin::NoChecksum,
+    pub fn read(s: &[u8]) -> Option<Fin> {
+        match s {
+            b"f" => Some(Fin::Finalize),
+            b"n" => Some(Fin::NoTable),
+            b"c" => Some(Fin::NoChecksum),
+            _ => None,
         }
     }
 }

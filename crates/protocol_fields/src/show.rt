@@ -1,8 +1,6 @@
 // What answers are made of, each part written out as it comes.
-use ecss::Crc16;
-use ecss_write::packet::CrcResult;
-use reserve::BoundsResult;
-use space_packet::{CheckResult, PusError, SizeResult, SpHeader};
+use reserve::Bounds;
+use space_packet::{PusError, SpHeader};
 use tc_header::PusTcSecondaryHeader;
 use tm_header::PusTmSecondaryHeader;
 
@@ -10,33 +8,17 @@ pub fn say(s: &[u8]) {
     io::write_all(1, s);
 }
 
-pub fn bad() {
-    say(b"bad-request");
-}
-
-// Some words, then the numbers, with c between.
-pub fn list(words: &[u8], c: u8, v: &[u64]) {
+// Some words, then the numbers, with a separator between.
+pub fn list(words: &[u8], separator: u8, numbers: &[u64]) {
     let mut out = [0u8; 256];
-    let end = laid(&mut out, words, c, v);
-    say(text::part(&out, 0, end));
-}
-
-fn laid(out: &mut [u8], words: &[u8], c: u8, v: &[u64]) -> usize {
-    let mut at = text::put_text(out, 0, words);
-    let mut k = 0;
-    while k < v.len() {
-        at = between(out, at, c, k);
-        at = text::put_number(out, at, v[k]);
-        k += 1;
+    let mut at = text::put_text(&mut out, 0, words);
+    for (k, n) in numbers.iter().enumerate() {
+        if k > 0 {
+            at = text::put(&mut out, at, separator);
+        }
+        at = text::put_number(&mut out, at, *n);
     }
-    at
-}
-
-fn between(out: &mut [u8], at: usize, c: u8, k: usize) -> usize {
-    if k == 0 {
-        return at;
-    }
-    text::put(out, at, c)
+    say(text::part(&out, 0, at));
 }
 
 // One number after some words.
@@ -47,26 +29,17 @@ pub fn number(words: &[u8], n: u64) {
 
 // Four digits.
 pub fn word(w: u16) {
-    let mut out = [0u8; 4];
-    let n = text::put_word(&mut out, 0, w);
-    say(text::part(&out, 0, n));
+    hex(&w.to_be_bytes());
 }
 
 // A space, then the octets, some thousands at a time; `-` for none.
 pub fn octets(s: &[u8]) {
-    if s.len() == 0 {
-        say(b" -");
-        return;
-    }
     say(b" ");
-    chunks(s);
-}
-
-fn chunks(s: &[u8]) {
-    let mut i = 0;
-    while i < s.len() {
-        hex(text::part(s, i, i + 2048));
-        i += 2048;
+    if s.is_empty() {
+        return say(b"-");
+    }
+    for part in s.chunks(2048) {
+        hex(part);
     }
 }
 
@@ -80,20 +53,14 @@ pub fn hex(s: &[u8]) {
 
 // err: and the number, then each value after a colon; checksums in hexadecimal.
 pub fn refusal(e: PusError) {
-    match e {
-        PusError::ChecksumFailure { stored, computed } => {
-            say(b"err:4:");
-            word(stored);
-            say(b":");
-            word(computed);
-        }
-        _ => in_decimal(e),
+    if let PusError::ChecksumFailure { stored, computed } = e {
+        say(b"err:4:");
+        word(stored);
+        say(b":");
+        return word(computed);
     }
-}
-
-fn in_decimal(e: PusError) {
     let r = e.numbers();
-    number(b"err:", r.number as u64);
+    number(b"err:", u64::from(r.number));
     if 0 < r.count {
         number(b":", r.first);
     }
@@ -103,124 +70,121 @@ fn in_decimal(e: PusError) {
 }
 
 // `ok` or the refusal.
-pub fn check(r: CheckResult) {
+pub fn check(r: Result<(), PusError>) {
     match r {
-        CheckResult::Err(e) => refusal(e),
-        CheckResult::Ok => say(b"ok"),
+        Err(e) => refusal(e),
+        Ok(()) => say(b"ok"),
     }
 }
 
 // How many, after some words, or the refusal.
-pub fn size(words: &[u8], r: SizeResult) {
+pub fn size(words: &[u8], r: Result<usize, PusError>) {
     match r {
-        SizeResult::Err(e) => refusal(e),
-        SizeResult::Ok(n) => number(words, n as u64),
+        Err(e) => refusal(e),
+        Ok(n) => number(words, n as u64),
     }
 }
 
 // ---- writes
 
 // The answer of a write, and the buffer after it.
-pub fn written(r: SizeResult, buf: &[u8]) {
+pub fn written(r: Result<usize, PusError>, buf: &[u8]) {
     size(b"ok:", r);
     octets(buf);
 }
 
+// A space, the answer of a write to a fresh copy of BUF, and the copy. BUF is the field.
+pub fn write_afresh<W: FnOnce(&mut [u8]) -> Result<usize, PusError>>(
+    field: &[u8],
+    buf: &mut [u8],
+    write: W,
+)
+    requires { W.IsAlwaysCallable write }
+{
+    let _ = text::octets(field, buf);
+    say(b" ");
+    written(write(buf), buf);
+}
+
 // A creator's choice of checksum, the length of its packet and its own checksum, each after a space.
-pub fn creator(has_checksum: bool, len: SizeResult, own: CrcResult) {
-    number(b" ", has_checksum as u64);
+pub fn creator(has_checksum: bool, len: Result<usize, PusError>, own: Result<u16, PusError>) {
+    number(b" ", u64::from(has_checksum));
     say(b" ");
     size(b"", len);
     say(b" ");
     match own {
-        CrcResult::Err(e) => refusal(e),
-        CrcResult::Ok(w) => word(w),
+        Err(e) => refusal(e),
+        Ok(w) => word(w),
     }
 }
 
 // The length of a reserved packet and of its data, then where the part for the data begins in the buffer, and how long it is.
-pub fn reserved(total: usize, len: SizeResult, bounds: BoundsResult, part: usize) {
+pub fn reserved(
+    total: usize,
+    len: Result<usize, PusError>,
+    bounds: Result<Bounds, PusError>,
+    part: usize,
+) {
     number(b" ", total as u64);
     say(b" ");
     size(b"", len);
     say(b" ");
-    start(bounds);
+    size(b"", bounds.map(|part| part.start));
     number(b" ", part as u64);
-}
-
-fn start(r: BoundsResult) {
-    match r {
-        BoundsResult::Err(e) => refusal(e),
-        BoundsResult::Ok(p) => number(b"", p.start as u64),
-    }
 }
 
 // ---- headers
 
 // SP after some words.
 pub fn sp(words: &[u8], h: SpHeader) {
-    let packet_type = h.packet_type();
-    let apid = h.apid();
-    let flags = h.sequence_flags();
-    let count = h.seq_count();
     let v = [
-        h.ccsds_version() as u64,
-        packet_type.raw_value() as u64,
-        h.sec_header_flag() as u64,
-        apid.value() as u64,
-        flags.raw_value() as u64,
-        count.value() as u64,
-        h.data_len() as u64,
+        u64::from(h.ccsds_version()),
+        u64::from(h.packet_type().raw_value()),
+        u64::from(h.sec_header_flag()),
+        u64::from(h.apid().value()),
+        u64::from(h.sequence_flags().raw_value()),
+        u64::from(h.seq_count().value()),
+        u64::from(h.data_len()),
     ];
     list(words, b',', &v);
 }
 
 // A space, then SEC: version, acknowledgement flags, service, subtype, source.
 pub fn sec(x: PusTcSecondaryHeader) {
-    let version = x.pus_version();
-    let flags = x.ack_flags();
     let v = [
-        version.raw_value() as u64,
-        flags.raw_value() as u64,
-        x.service_type_id() as u64,
-        x.message_subtype_id() as u64,
-        x.source_id() as u64,
+        u64::from(x.pus_version().raw_value()),
+        u64::from(x.ack_flags().raw_value()),
+        u64::from(x.service_type_id()),
+        u64::from(x.message_subtype_id()),
+        u64::from(x.source_id()),
     ];
     list(b" ", b',', &v);
 }
 
 // A space, then TM: version, time reference status, service, subtype, counter, destination.
 pub fn tm(x: PusTmSecondaryHeader) {
-    let version = x.pus_version();
     let v = [
-        version.raw_value() as u64,
-        x.sc_time_ref_status() as u64,
-        x.service_type_id() as u64,
-        x.message_subtype_id() as u64,
-        x.msg_counter() as u64,
-        x.dest_id() as u64,
+        u64::from(x.pus_version().raw_value()),
+        u64::from(x.sc_time_ref_status()),
+        u64::from(x.service_type_id()),
+        u64::from(x.message_subtype_id()),
+        u64::from(x.msg_counter()),
+        u64::from(x.dest_id()),
     ];
     list(b" ", b',', &v);
 }
 
 // A space, then the total, and where the data start and how many they are.
 pub fn place(total: usize, start: usize, end: usize) {
-    let v = [total as u64, start as u64, length(start, end)];
-    list(b" ", b' ', &v);
-}
-
-fn length(start: usize, end: usize) -> u64 {
-    if end < start {
-        return 0;
-    }
-    (end - start) as u64
+    let len = end.saturating_sub(start);
+    list(b" ", b' ', &[total as u64, start as u64, len as u64]);
 }
 
 // A space, then the stored checksum; `-` for none.
-pub fn stored(crc16: Crc16) {
+pub fn stored(crc16: Option<u16>) {
     say(b" ");
     match crc16 {
-        Crc16::Some(w) => word(w),
-        Crc16::None => say(b"-"),
+        Some(w) => word(w),
+        None => say(b"-"),
     }
 }

@@ -1,77 +1,73 @@
 // The requests on the strict verdict and the splitter, which the crate does not have.
 use crate::read;
-use protocol_fields::show;
-use space_packet::CheckResult;
+use protocol_fields::{Pieces, octets, show};
+use space_packet::PusError;
 use tc_header::TcForm;
-use tc_strict::Verdict;
+use tc_read::PusTcRecord;
 use tc_strict::split::{Cursor, Step};
 
 // strict DATA
-pub(crate) fn judge(form: TcForm, s: &[u8]) {
-    let v = tc_strict::judge_in(form, s);
-    match v {
-        Verdict::Refused(e) => show::refusal(e),
-        Verdict::Accepted(record) => read::report(b"accept ", record),
+pub(crate) fn judge(form: TcForm, mut fields: Pieces<'_>, room: &mut [u8]) -> Option<()> {
+    let (data, _) = octets(fields.next()?, room)?;
+    fields.end()?;
+    match tc_strict::judge_in(form, data) {
+        Err(e) => show::refusal(e),
+        Ok(record) => read::report(b"accept ", record),
     }
+    Some(())
 }
 
 // split DATA; a form that is refused is the whole answer
-pub(crate) fn split(form: TcForm, s: &[u8]) {
-    let c = form.check();
-    if let CheckResult::Err(e) = c {
-        return show::refusal(e);
+pub(crate) fn split(form: TcForm, mut fields: Pieces<'_>, room: &mut [u8]) -> Option<()> {
+    let (data, _) = octets(fields.next()?, room)?;
+    fields.end()?;
+    match form.check() {
+        Err(e) => show::refusal(e),
+        Ok(()) => {
+            packets(form, data);
+            show::number(b"end:", data.len() as u64);
+        }
     }
-    pieces(form, s);
-    show::number(b"end:", s.len() as u64);
+    Some(())
 }
 
-// A piece has an octet or more, so the turns suffice.
-fn pieces(form: TcForm, s: &[u8]) {
-    let mut from = 0;
-    let mut turns = s.len();
-    while turns > 0 && from < s.len() {
-        from = piece(form, s, from);
-        turns -= 1;
-    }
-}
-
-// Shows the piece at `from`, and answers where the next begins.
-fn piece(form: TcForm, s: &[u8], from: usize) -> usize {
-    let here = Cursor { at: from };
-    let step = here.step_in(form, s);
-    match step {
-        Step::Packet {
-            at,
-            total,
-            verdict,
-            next,
-        } => {
-            place(at, total);
-            judged(verdict);
-            next.at
+// A step takes an octet or more, so the turns suffice.
+fn packets(form: TcForm, capture: &[u8]) {
+    let mut cursor = Cursor::new();
+    for _ in 0..capture.len() {
+        match cursor.step_in(form, capture) {
+            Step::Packet {
+                at,
+                total,
+                verdict,
+                next,
+            } => {
+                place(at, total);
+                judged(verdict);
+                cursor = next;
+            }
+            Step::Tail { at, len, next } => {
+                place(at, len);
+                show::say(b"tail ");
+                cursor = next;
+            }
+            Step::End => return,
         }
-        Step::Tail { at, len, next } => {
-            place(at, len);
-            show::say(b"tail ");
-            next.at
-        }
-        Step::End => s.len(),
     }
 }
 
 // AT:LEN:
 fn place(at: usize, len: usize) {
-    let v = [at as u64, len as u64];
-    show::list(b"", b':', &v);
+    show::list(b"", b':', &[at as u64, len as u64]);
     show::say(b":");
 }
 
 // `accept` or the number of the refusal, and a space.
-fn judged(verdict: Verdict) {
+fn judged(verdict: Result<PusTcRecord, PusError>) {
     match verdict {
-        Verdict::Accepted(_) => show::say(b"accept "),
-        Verdict::Refused(e) => {
-            show::number(b"", e.number() as u64);
+        Ok(_) => show::say(b"accept "),
+        Err(e) => {
+            show::number(b"", u64::from(e.number()));
             show::say(b" ");
         }
     }

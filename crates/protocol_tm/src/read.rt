@@ -1,60 +1,41 @@
 // The requests that read telemetry.
-use protocol_fields::{Mode, has, octets, show};
-use tm_read::{PusTmRecord, PusTmRecordResult};
-use tm_strict::Verdict;
+use protocol_fields::{Mode, Pieces, octets, show};
+use space_packet::{CcsdsPacket, PusError};
+use tm_read::PusTmRecord;
 
 // strict DATA
-pub(crate) fn judge(time_len: u8, line: &[u8], room: &mut [u8]) {
-    let mut good = has(line, 2);
-    let data = octets(line, 1, room, &mut good);
-    if good {
-        return judged(time_len, data);
+pub(crate) fn judge(time_len: u8, mut fields: Pieces<'_>, room: &mut [u8]) -> Option<()> {
+    let (data, _) = octets(fields.next()?, room)?;
+    fields.end()?;
+    match tm_strict::judge(time_len, data) {
+        Err(e) => show::refusal(e),
+        Ok(record) => report(b"accept ", record, tm_read::timestamp(time_len, data, true)),
     }
-    show::bad()
-}
-
-fn judged(time_len: u8, data: &[u8]) {
-    let v = tm_strict::judge(time_len, data);
-    match v {
-        Verdict::Refused(e) => show::refusal(e),
-        Verdict::Accepted(record) => {
-            report(b"accept ", record, tm_read::timestamp(time_len, data, true));
-        }
-    }
+    Some(())
 }
 
 // read MODE DATA
-pub(crate) fn read(time_len: u8, line: &[u8], room: &mut [u8]) {
-    let mut good = has(line, 3);
-    let data = octets(line, 2, room, &mut good);
-    let mode = Mode::read(line, 1, &mut good);
-    if good {
-        return answer(time_len, mode, data);
-    }
-    show::bad()
-}
-
-fn answer(time_len: u8, mode: Mode, data: &[u8]) {
-    let r = read_as(time_len, mode, data);
-    match r {
-        PusTmRecordResult::Err(e) => show::refusal(e),
-        PusTmRecordResult::Ok(record) => {
-            report(
-                b"ok ",
-                record,
-                tm_read::timestamp(time_len, data, mode.has_checksum()),
-            );
+pub(crate) fn read(time_len: u8, mut fields: Pieces<'_>, room: &mut [u8]) -> Option<()> {
+    let mode = Mode::read(fields.next()?)?;
+    let (data, _) = octets(fields.next()?, room)?;
+    fields.end()?;
+    match read_as(time_len, mode, data) {
+        Err(e) => show::refusal(e),
+        Ok(record) => {
+            let time = tm_read::timestamp(time_len, data, mode.has_checksum());
+            report(b"ok ", record, time);
             show::stored(record.crc16());
         }
     }
+    Some(())
 }
 
 // One call has both forms of the checksum.
-fn read_as(time_len: u8, mode: Mode, data: &[u8]) -> PusTmRecordResult {
+fn read_as(time_len: u8, mode: Mode, data: &[u8]) -> Result<PusTmRecord, PusError> {
     match mode {
+        Mode::New | Mode::NoTable => PusTmRecord::new(time_len, data),
         Mode::NoVerify => PusTmRecord::new_no_checksum_verification(time_len, data, true),
         Mode::NoCrc => PusTmRecord::new_no_checksum(time_len, data),
-        _ => PusTmRecord::new(time_len, data),
     }
 }
 

@@ -7,58 +7,18 @@ mod tailored;
 mod track;
 mod two_stations;
 
-use protocol_fields::field;
+use protocol_fields::Pieces;
 
-#[derive(Clone, Copy)]
-enum Kind {
-    Track,
-    Best,
-    Params,
-    WriteParams,
-    Profile,
-    ProfileBuild,
-    Gaps,
-    Other,
-}
-
-impl Kind {
-    fn read(line: &[u8]) -> Kind {
-        let k = protocol_fields::place(
-            field(line, 0),
-            b"track best params wparams profile pbuild gaps",
-        );
-        match k {
-            0 => Kind::Track,
-            1 => Kind::Best,
-            2 => Kind::Params,
-            3 => Kind::WriteParams,
-            4 => Kind::Profile,
-            5 => Kind::ProfileBuild,
-            6 => Kind::Gaps,
-            _ => Kind::Other,
-        }
-    }
-}
-
-// Answers a line where its kind is among these, and tells whether it is. a and b are room for the octets of its fields.
-pub fn reply(line: &[u8], a: &mut [u8], b: &mut [u8]) -> bool {
-    let kind = Kind::read(line);
-    if let Kind::Other = kind {
-        return false;
-    }
-    reply_to(kind, line, a, b);
-    true
-}
-
-fn reply_to(kind: Kind, line: &[u8], a: &mut [u8], b: &mut [u8]) {
+// Answers a request, or else None where the line is none of these. room is for the octets of its fields.
+pub fn reply(kind: &[u8], fields: Pieces<'_>, room: &mut [u8]) -> Option<()> {
     match kind {
-        Kind::Best => two_stations::reply(line, a, b),
-        Kind::ProfileBuild => tailored::build(line, a, b),
-        Kind::Track => track::reply(line, a),
-        Kind::Params => parameters::read(line, a),
-        Kind::WriteParams => parameters::write(line, a),
-        Kind::Profile => tailored::reply(line, a),
-        Kind::Gaps => listing::reply(line, a),
-        Kind::Other => {}
+        b"track" => track::reply(fields, room),
+        b"best" => two_stations::reply(fields, room),
+        b"params" => parameters::read(fields, room),
+        b"wparams" => parameters::write(fields, room),
+        b"profile" => tailored::reply(fields, room),
+        b"pbuild" => tailored::build(fields, room),
+        b"gaps" => listing::reply(fields, room),
+        _ => None,
     }
 }

@@ -5,7 +5,7 @@ use Prim.Native.Nat.{ℕ}
 use Rattle.text.specs.Ascii.{ascii}
 use Rattle.text.specs.Digits.{decimal_in, decimal}
 use Rattle.crc_register.specs.Crc.{◌⊕◌, bit, shift_in, run, octet_bits, bits_of, crc_from}
-use Rattle.space_packet.specs.Answer.{refuse_if, ◌then◌}
+use Rattle.space_packet.specs.Answer.{refuse_if, and_then}
 use Rattle.space_packet.specs.Fields.{id_of, psc_of}
 use Rattle.space_packet.specs.Header.{read_header}
 use Rattle.ecss.specs.Frame.{frame_of, checked_of}
@@ -24,5 +24,5 @@ abbrev pub capture : List ℕ
 capture = ping ++ (0x61 ∷ 0x6D ∷ []) ++ ping ++ (0x61 ∷ 0x6C ∷ []) ++ (0x19 ∷ 0x23 ∷ 0xC0 ∷ [])
 
 pub reported : report_text capture ≡ ascii "tcverdict 1\n0 13 accept 17 1\n13 13 refuse 4\n26 3 tail\nend 29\n"
-unfolding ◌⊕◌ bit shift_in run octet_bits bits_of crc_from refuse_if ◌then◌ id_of psc_of read_header frame_of checked_of pus_rule strict_rule read_as judge form_check all_zero tc_of record_in strict_in piece_by step_by walk_by two_text verdict_text line_of lines_of body_text report_text decimal_in decimal
+unfolding ◌⊕◌ bit shift_in run octet_bits bits_of crc_from refuse_if and_then id_of psc_of read_header frame_of checked_of pus_rule strict_rule read_as judge form_check all_zero tc_of record_in strict_in piece_by step_by walk_by two_text verdict_text line_of lines_of body_text report_text decimal_in decimal
 reported = refl

@@ -1,4 +1,5 @@
 pub mod Body
 pub mod Example
 pub mod Lines
+pub mod Pages
 pub mod Room

@@ -1,13 +1,12 @@
 -- The report of tcverdict, to the last character.
-use Rattle.std.specs.Prelude.{ℕ, ◌+◌, ◌*◌, List, [], ◌∷◌, ◌++◌, length, ltb}
+use Rattle.std.specs.Prelude.{ℕ, ◌+◌, ◌*◌, List, [], ◌∷◌, ◌++◌, length, ltb, Option, Some, None}
 use Rattle.text.specs.Ascii.{ascii}
 use Rattle.text.specs.Digits.{decimal}
 use Rattle.space_packet.specs.Answer.{Answer, gives, refuses}
 use Rattle.space_packet.specs.Bits.{pick}
 use Rattle.tc_read.specs.declared.PusTcRecord.{PusTcRecord}
 use Rattle.tc_strict.specs.Split.{Piece, packet, tail, Next, end, piece, walk}
-use Rattle.tc_strict.specs.declared.split.Step.{Step}
-use Rattle.tc_strict.specs.declared.split.Step.TheVariants as S
+use Rattle.tc_strict.specs.declared.split.Cursor.{Cursor}
 
 -- two numbers, and a space between them
 unfoldable pub two_text : ℕ → ℕ → List ℕ
@@ -49,8 +48,7 @@ unfoldable pub step_text : Next → List ℕ
 step_text end = []
 step_text (piece p next) = line_of p
 
--- where the next piece begins
-abbrev pub behind : Step → ℕ → ℕ
-behind (S.Packet at n v next) last = next.at
-behind (S.Tail at n next) last = next.at
-behind S.End last = last
+-- where the next piece begins; nowhere at the capture's end
+abbrev pub onward_of : Next → Option Cursor
+onward_of end = None
+onward_of (piece p next) = Some (record { at = next })

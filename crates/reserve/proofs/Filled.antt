@@ -1,16 +1,17 @@
 -- What filling in the data of a reservation, and finishing it, leave of the buffer.
 use Prim.Native.Nat.{ℕ, ◌+◌, ◌-◌, ◌≤◌}
 use mathlib.Core.Path.{◌≡◌, sym, ap, ap₂, ◌∙◌}
-use mathlib.Core.Bool.{Bool, true, false}
+use mathlib.Core.Bool.{Bool, true}
 use mathlib.Core.List.{List, ◌++◌}
 use native.Mathlib.Omega.{arith}
 use lib.ListN.{length, take, drop, take-append-drop, length-drop}
 use lib.Seq.{length-take-le}
 use borrow.Rule.Slice.PartMut.{put_mid}
-use Rattle.space_packet.specs.Answer.{Answer, gives, refuses, size_answer, in_buffer}
+use Rattle.std.specs.Prelude.{Result}
+use Rattle.space_packet.specs.Answer.{answer_of, Answer, gives, refuses, in_buffer}
+use Rattle.space_packet.specs.declared.PusError.{PusError}
 use Rattle.space_packet.specs.Header.{left_by}
 use Rattle.space_packet.specs.Wrote.{Wrote}
-use Rattle.space_packet.specs.declared.SizeResult.{SizeResult}
 use Rattle.space_packet.proofs.Answers.{gives_then, left-written}
 use Rattle.ecss.specs.Frame.{trailer, sealed, closed}
 use Rattle.ecss_write.specs.Write.{write_in}
@@ -47,9 +48,9 @@ fill-left start r m d y b (gives n) q v p =
     ∙ ap₂ (λ (x z : ℕ). take x m ++ d ++ drop (x + z) m) q.starts (sym i.0)
 
 -- the middle of the buffer, filled in
-pub fill-wrote : (start : ℕ) (r : Reservation) (m d y : List ℕ) (b : Bounds) (o : SizeResult) → BoundsAre start r (length m) b
+pub fill-wrote : (start : ℕ) (r : Reservation) (m d y : List ℕ) (b : Bounds) (o : Result ℕ PusError) → BoundsAre start r (length m) b
     → Wrote (in_buffer (length (take (b.end - b.start) (drop b.start m))) (length d)) d (take (b.end - b.start) (drop b.start m)) o y
-    → (size_answer o ≡ fill_in start r (length m) (length d))
+    → (answer_of o ≡ fill_in start r (length m) (length d))
     × (put_mid b.start (b.end - b.start) m y ≡ filled_by (fill_in start r (length m) (length d)) start d m)
 fill-wrote start r m d y b o q w =
     let h : b.end - b.start ≤ length (drop b.start m) = omega (arith, q.starts, q.ends, q.room, q.fits, length-drop b.start m) in
@@ -61,7 +62,7 @@ finished-by : (r : Reservation) (m : List ℕ) (b : Bool) → r.has_checksum ≡
 finished-by r m b h = ap (λ (x : Bool). closed x (take (r.total - trailer x) m) ++ drop r.total m) h
 
 -- finishing, with a checksum and without
-pub finish-sealed : (start : ℕ) (r : Reservation) (m y : List ℕ) (o : SizeResult) → holds_in start r (length m) ≡ gives tt
+pub finish-sealed : (start : ℕ) (r : Reservation) (m y : List ℕ) (o : Result ℕ PusError) → holds_in start r (length m) ≡ gives tt
     → r.has_checksum ≡ true → length m ≤ 18446744073709551615
     → Wrote (write_in start true (r.total - 2 - r.start) (length m)) (sealed (take (start + (r.total - 2 - r.start)) m)) m o y
     → Wrote (finish_in start r (length m)) (finished r m) m o y
@@ -79,8 +80,3 @@ finish-sealed start r m y o p t l w =
           w.left ∙ left-written _ _ _ _ a ∙ ap (λ (x : ℕ). sealed (take x m) ++ drop r.total m) e
           ∙ sym (finished-by r m true t) ∙ sym (left-written _ _ _ _ b);
     }
-
-pub finish-plain : (r : Reservation) (m : List ℕ) → r.has_checksum ≡ false → m ≡ finished r m ++ drop r.total m
-finish-plain r m h =
-    let q : r.total - 0 ≡ r.total = omega arith in
-    sym (finished-by r m false h ∙ ap (λ (x : ℕ). take x m ++ drop r.total m) q ∙ take-append-drop r.total m)

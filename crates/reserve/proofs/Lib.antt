@@ -1,3 +1,2 @@
 pub mod Reserved
 pub mod Filled
-pub mod Determined

@@ -3,8 +3,8 @@ use Prim.Native.Nat.{ℕ, ◌+◌, ◌-◌, ◌≤◌}
 use mathlib.Core.Path.{◌≡◌, sym, ap, ap₂, ◌∙◌}
 use mathlib.Core.Bool.{not}
 use borrow.Author.Tests.{ltb-false, le-ltb, eq-eqb, eqb-true, not-false}
-use Rattle.space_packet.specs.Answer.{Passed, Numbers, gives, refuses, ◌then◌}
-use Rattle.space_packet.proofs.Answers.{gives-inj, refuses-inj, never, refuse-no, refuse-gives, then-gives, gives_then}
+use Rattle.space_packet.specs.Answer.{gives}
+use Rattle.space_packet.proofs.Answers.{gives-inj, refuse-no, refuse-gives, then-gives, gives_then}
 use Rattle.ecss.specs.Frame.{trailer}
 use Rattle.reserve.specs.Reserve.{end_of, holds, holds_in, data_len_of, bounds_of}
 use Rattle.reserve.specs.declared.Reservation.{Reservation}
@@ -56,15 +56,6 @@ bounds-are start r m b p =
     let h = holds-in start r m a.1 in
     let e : record { start = start; end = end_of r } ≡ b = gives-inj _ b a.2 in
     record { starts = sym (ap (λ (x : Bounds). x.start) e); ends = sym (ap (λ (x : Bounds). x.end) e); room = h.0.room; fits = h.1; held = a.1 }
-
-passed-refused : (a : Passed) (b : Bounds) (e : Numbers) → (a then λ _. gives b) ≡ refuses e → a ≡ refuses e
-unfolding ◌then◌
-passed-refused (refuses d) b e p = ap refuses (refuses-inj d e p)
-passed-refused (gives u) b e p = absurd (never b e (sym p))
-
--- bounds are refused where the reservation is
-pub bounds-refused : (start : ℕ) (r : Reservation) (m : ℕ) (e : Numbers) → bounds_of start r m ≡ refuses e → holds_in start r m ≡ refuses e
-bounds-refused start r m e p = passed-refused (holds_in start r m) (record { start = start; end = end_of r }) e p
 
 -- the same from the reservation's own start, and a trailer of t octets
 pub data-len-gives : (start : ℕ) (r : Reservation) (t : ℕ) → holds start r ≡ gives tt → t ≡ trailer r.has_checksum → gives (r.total - t - r.start) ≡ data_len_of start r

@@ -1,11 +1,9 @@
 -- A packet whose headers stand in a buffer, and whose data is filled in there, over `start`, where its data starts.
 use Rattle.std.specs.Prelude.{ℕ, ◌+◌, ◌-◌, not, List, [], ◌++◌, take, drop, ltb, eqb}
-use Rattle.space_packet.specs.Answer.{Answer, Passed, refusal, gives, refuses, refuse_if, ◌then◌, numbers_of, in_buffer}
+use Rattle.space_packet.specs.Answer.{Answer, Passed, refusal, gives, refuses, refuse_if, ◌then◌, in_buffer}
 use Rattle.ecss.specs.Frame.{trailer, closed, max_total}
 use Rattle.reserve.specs.declared.Reservation.{Reservation}
 use Rattle.reserve.specs.declared.Bounds.{Bounds}
-use Rattle.reserve.specs.declared.BoundsResult.{BoundsResult}
-use Rattle.reserve.specs.declared.BoundsResult.TheVariants as B
 
 -- where the data ends, and the checksum's place begins
 abbrev pub end_of : Reservation → ℕ
@@ -31,10 +29,6 @@ data_len_of start r = holds start r then λ _. gives (end_of r - start)
 -- the bounds of the data in a buffer of m octets
 abbrev pub bounds_of : ℕ → Reservation → ℕ → Answer Bounds
 bounds_of start r m = holds_in start r m then λ _. gives (record { start = start; end = end_of r })
-
-abbrev pub bounds_answer : BoundsResult → Answer Bounds
-bounds_answer (B.Ok b) = gives b
-bounds_answer (B.Err e) = refuses (numbers_of e)
 
 -- the part of a list within bounds; where they are refused, the empty part
 abbrev pub within : Answer Bounds → List ℕ → List ℕ

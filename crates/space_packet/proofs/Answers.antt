@@ -9,7 +9,7 @@ use lib.ListN.{get_or, drop}
 use lib.Dec.{eqb, ltb}
 use borrow.Author.Tests.{lt-ltb, le-ltb, ltb-false, eqb-false}
 use Rattle.space_packet.specs.Bits.{pick}
-use Rattle.space_packet.specs.Answer.{Numbers, Answer, Passed, gives, refuses, refusal, refuse_if, ◌then◌, set_if, in_range, in_buffer, numbers_of}
+use Rattle.space_packet.specs.Answer.{Numbers, Answer, Passed, gives, refuses, refusal, refuse_if, ◌then◌, set_if, in_range, in_buffer, numbers_of, and_then}
 use Rattle.space_packet.specs.Header.{left_by}
 use Rattle.space_packet.specs.declared.PusError.{PusError}
 use Rattle.space_packet.specs.declared.PusError.TheVariants as E
@@ -42,27 +42,27 @@ refuse-gives true e k x p = absurd (never x e p)
 refuse-gives false e k x p = (refl, p)
 
 pub then-gives : {A B : Type 0} (a : Answer A) (f : A → Answer B) (y : B) → (a then f) ≡ gives y → (x : A) × (a ≡ gives x) × (f x ≡ gives y)
-unfolding ◌then◌
+unfolding and_then
 then-gives (gives x) f y p = (x, refl, p)
 then-gives (refuses e) f y p = absurd (never y e p)
 
 pub gives_then : {A B : Type 0} (a : Answer A) (f : A → Answer B) (x : A) → a ≡ gives x → (a then f) ≡ f x
-unfolding ◌then◌
+unfolding and_then
 gives_then a f x p = ap (λ (z : Answer _). z then f) p
 
 pub refuses-then : {A B : Type 0} (a : Answer A) (f : A → Answer B) (e : Numbers) → a ≡ refuses e → (a then f) ≡ refuses e
-unfolding ◌then◌
+unfolding and_then
 refuses-then a f e p = ap (λ (z : Answer _). z then f) p
 
 -- a check, and what is asked next
 pub if-then : {A B : Type 0} (b : Bool) (e : Numbers) (k : Answer A) (f : A → Answer B) → (refuse_if b e k then f) ≡ refuse_if b e (k then f)
-unfolding refuse_if ◌then◌
+unfolding refuse_if and_then
 if-then true e k f = refl
 if-then false e k f = refl
 
 -- what refuses nothing refuses with what comes before it
 pub then-refused : {A B : Type 0} (a : Answer A) (g : A → B) (e : Numbers) → (a then λ x. gives (g x)) ≡ refuses e → a ≡ refuses e
-unfolding ◌then◌
+unfolding and_then
 then-refused (refuses d) g e p = ap refuses (refuses-inj d e p)
 then-refused (gives x) g e p = absurd (never (g x) e (sym p))
 
@@ -78,7 +78,7 @@ holds-if P Q false e k h s = s refl
 
 pub holds_then : {A B : Type 0} (P : B → Type 0) (Q : Numbers → Type 0) (a : Answer A) (f : A → Answer B)
     → Holds (λ (x : A). Unit {0}) Q a → ((x : A) → a ≡ gives x → Holds P Q (f x)) → Holds P Q (a then f)
-unfolding ◌then◌
+unfolding and_then
 holds_then P Q (gives x) f s k = k x refl
 holds_then P Q (refuses e) f s k = s
 
@@ -100,7 +100,7 @@ then-of a b f e = ap (λ (x : Answer _). x then f) e
 
 -- a check that passes what another says is that check
 pub then_same : (p : Passed) → (p then λ _. gives tt) ≡ p
-unfolding ◌then◌
+unfolding and_then
 then_same (gives u) = refl
 then_same (refuses e) = refl
 

@@ -5,9 +5,13 @@ use mathlib.Core.Logic.{◌↔◌}
 use Prim.Native.Nat.{ℕ}
 use lib.Dec.{eqb}
 use borrow.Author.Tests.{eqb-true, eq-eqb}
+use denote.Enum.Bare.{sameb}
 use Rattle.space_packet.specs.Bits.{flag_number, lowest}
 use Rattle.space_packet.specs.Fields.{type_number, type_of, flags_number, flags_of}
 use Rattle.space_packet.specs.Header.{same_header}
+use Rattle.space_packet.specs.declared.PacketType.{PacketType}
+use Rattle.space_packet.specs.declared.PacketType.TheVariants.{Tm, Tc}
+use Rattle.space_packet.specs.contracts.PacketType as PacketType
 use Rattle.space_packet.specs.declared.SpacePacketHeader.{SpacePacketHeader}
 use Rattle.space_packet.proofs.Answers.{by-inverse}
 use Rattle.space_packet.proofs.Numbers.{type-back, flag-back, flags-back}
@@ -67,3 +71,10 @@ same_flag a b = (
   λ p. by-inverse flag_number lowest flag-back a b (eqb-true _ _ p),
   λ e. eq-eqb _ _ (ap flag_number e),
 )
+
+-- packet types that `==` compares are compared by their numbers
+pub same-type : (a b : PacketType) → sameb PacketType.the_type a b ≡ eqb (type_number a) (type_number b)
+same-type Tm Tm = refl
+same-type Tm Tc = refl
+same-type Tc Tm = refl
+same-type Tc Tc = refl

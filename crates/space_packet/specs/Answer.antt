@@ -1,14 +1,10 @@
 -- What calls answer: a value, or a refusal in its number and its values.
-use Rattle.std.specs.Prelude.{ℕ, Bool, true, false, List, [], ◌∷◌, ltb, length, get_or}
+use Rattle.std.specs.Prelude.{ℕ, Bool, true, false, List, [], ◌∷◌, ltb, length, get_or, Result, Ok, Err}
 use Rattle.space_packet.specs.declared.PusError.{PusError}
 use Rattle.space_packet.specs.declared.PusError.TheVariants as E
 use Rattle.space_packet.specs.declared.ByteConversionError.{ByteConversionError}
 use Rattle.space_packet.specs.declared.ByteConversionError.TheVariants.{ToSliceTooSmall, FromSliceTooSmall}
 use Rattle.space_packet.specs.declared.RefusalNumbers.{RefusalNumbers}
-use Rattle.space_packet.specs.declared.CheckResult.{CheckResult}
-use Rattle.space_packet.specs.declared.CheckResult.TheVariants as C
-use Rattle.space_packet.specs.declared.SizeResult.{SizeResult}
-use Rattle.space_packet.specs.declared.SizeResult.TheVariants as S
 
 -- a refusal's number and its values
 pub record Numbers : Type 0 where
@@ -28,11 +24,14 @@ unfoldable pub refuse_if : {A : Type 0} → Bool → Numbers → Answer A → An
 refuse_if true e k = refuses e
 refuse_if false e k = k
 
-infixr 40 ◌then◌
 -- a refusal ends it; a value goes on
-unfoldable pub ◌then◌ : {A B : Type 0} → Answer A → (A → Answer B) → Answer B
-refuses e then f = refuses e
-gives a then f = f a
+unfoldable pub and_then : {A B : Type 0} → Answer A → (A → Answer B) → Answer B
+and_then (refuses e) f = refuses e
+and_then (gives a) f = f a
+
+infixr 40 ◌then◌
+abbrev pub ◌then◌ : {A B : Type 0} → Answer A → (A → Answer B) → Answer B
+a then f = and_then a f
 
 -- a check that gives nothing but its passing
 abbrev pub Passed : Type 0
@@ -97,12 +96,11 @@ in_range place largest value = refuse_if (ltb largest value) (refusal 7 (place �
 abbrev pub in_buffer : ℕ → ℕ → Answer ℕ
 in_buffer m total = refuse_if (ltb m total) (refusal 1 (m ∷ total ∷ [])) (gives total)
 
--- ---- the answers of this crate's calls
+-- ---- what a call answers, and what a setter leaves
 
-abbrev pub check_answer : CheckResult → Passed
-check_answer C.Ok = gives tt
-check_answer (C.Err e) = refuses (numbers_of e)
+abbrev pub answer_of : {A : Type 0} → Result A PusError → Answer A
+answer_of (Ok a) = gives a
+answer_of (Err e) = refuses (numbers_of e)
 
-abbrev pub size_answer : SizeResult → Answer ℕ
-size_answer (S.Ok n) = gives n
-size_answer (S.Err e) = refuses (numbers_of e)
+abbrev pub outcome : {A : Type 0} → Result (Unit {0}) PusError → A → Kept A
+outcome r a = record { passed = answer_of r; kept = a }

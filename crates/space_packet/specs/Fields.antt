@@ -1,19 +1,14 @@
 -- The fields of the primary header, in the numbers that stand in its octets. CCSDS 133.0-B-2, 4.1.3.
 use Rattle.std.specs.Prelude.{ℕ, ◌+◌, ◌*◌, ◌/◌, ◌%◌, Bool, eqb}
+use Rattle.space_packet.specs.Answer.{Passed, in_range}
 use Rattle.space_packet.specs.Bits.{pick, lowest, flag_number}
-use Rattle.space_packet.specs.Answer.{Answer, Kept, Passed, gives, refuses, in_range, numbers_of, check_answer}
 use Rattle.space_packet.specs.declared.Apid.{Apid}
 use Rattle.space_packet.specs.declared.SeqCount.{SeqCount}
-use Rattle.space_packet.specs.declared.ApidResult.{ApidResult}
-use Rattle.space_packet.specs.declared.ApidResult.TheVariants as A
-use Rattle.space_packet.specs.declared.SeqCountResult.{SeqCountResult}
-use Rattle.space_packet.specs.declared.SeqCountResult.TheVariants as Q
 use Rattle.space_packet.specs.declared.PacketType.{PacketType}
 use Rattle.space_packet.specs.declared.PacketType.TheVariants.{Tm, Tc}
 use Rattle.space_packet.specs.declared.SequenceFlags.{SequenceFlags}
 use Rattle.space_packet.specs.declared.SequenceFlags.TheVariants.{ContinuationSegment, FirstSegment, LastSegment, Unsegmented}
 use Rattle.space_packet.specs.declared.PacketId.{PacketId}
-use Rattle.space_packet.specs.declared.PacketIdSet.{PacketIdSet}
 use Rattle.space_packet.specs.declared.PacketSequenceControl.{PacketSequenceControl}
 
 -- 4.1.3.3.4: the APID has 11 bits, and 4.1.3.4.3: the count 14. Their places in a refusal are 2 and 3.
@@ -29,14 +24,6 @@ idle_apid = record { 0 = 2047 }
 
 abbrev pub is_idle : Apid → Bool
 is_idle a = eqb a.0 idle_apid.0
-
-abbrev pub apid_answer : ApidResult → Answer Apid
-apid_answer (A.Ok a) = gives a
-apid_answer (A.Err e) = refuses (numbers_of e)
-
-abbrev pub seq_count_answer : SeqCountResult → Answer SeqCount
-seq_count_answer (Q.Ok n) = gives n
-seq_count_answer (Q.Err e) = refuses (numbers_of e)
 
 -- 4.1.3.3.2: 0 is telemetry, 1 a telecommand
 abbrev pub type_number : PacketType → ℕ
@@ -74,6 +61,3 @@ psc_of w = record { seq_flags = flags_of (w / 16384); seq_count = record { 0 = w
 -- the packet ID with another APID
 abbrev pub id_with_apid : PacketId → Apid → PacketId
 id_with_apid i a = record { packet_type = i.packet_type; sec_header_flag = i.sec_header_flag; apid = a }
-
-abbrev pub id_kept : PacketIdSet → Kept PacketId
-id_kept r = record { passed = check_answer r.result; kept = r.packet_id }

@@ -1,7 +1,7 @@
 -- The primary header: its row of fields, its octets, and its reading. CCSDS 133.0-B-2, 4.1.3.
 use Rattle.std.specs.Prelude.{ℕ, ◌+◌, ◌*◌, ◌/◌, ◌≤◌, Bool, ◌&&◌, List, [], ◌∷◌, ◌++◌, length, drop, ltb, eqb}
+use Rattle.space_packet.specs.Answer.{Answer, Passed, gives, refuses, refusal, refuse_if, ◌then◌, in_range}
 use Rattle.space_packet.specs.Bits.{bits, flag_number, be16, word}
-use Rattle.space_packet.specs.Answer.{Answer, Kept, Passed, gives, refuses, refusal, refuse_if, ◌then◌, in_range, numbers_of, check_answer}
 use Rattle.space_packet.specs.Fields.{apid_check, count_check, type_number, flags_number, id_raw, psc_raw, id_of, psc_of}
 use Rattle.space_packet.specs.declared.Apid.{Apid}
 use Rattle.space_packet.specs.declared.SeqCount.{SeqCount}
@@ -10,9 +10,6 @@ use Rattle.space_packet.specs.declared.SequenceFlags.{SequenceFlags}
 use Rattle.space_packet.specs.declared.PacketId.{PacketId}
 use Rattle.space_packet.specs.declared.PacketSequenceControl.{PacketSequenceControl}
 use Rattle.space_packet.specs.declared.SpacePacketHeader.{SpacePacketHeader}
-use Rattle.space_packet.specs.declared.SpHeaderResult.{SpHeaderResult}
-use Rattle.space_packet.specs.declared.SpHeaderResult.TheVariants as H
-use Rattle.space_packet.specs.declared.SpHeaderSet.{SpHeaderSet}
 
 -- ---- the layout
 
@@ -52,10 +49,6 @@ header_check h =
 
 -- ---- the calls
 
-abbrev pub sp_header_answer : SpHeaderResult → Answer SpacePacketHeader
-sp_header_answer (H.Ok h) = gives h
-sp_header_answer (H.Err e) = refuses (numbers_of e)
-
 -- from_be_bytes
 unfoldable pub header_read : List ℕ → Answer SpacePacketHeader
 header_read s = refuse_if (ltb (length s) 6) (refusal 2 (length s ∷ 6 ∷ [])) (gives (read_header s))
@@ -84,9 +77,6 @@ with_id h i = header_of i h.psc h.data_len h.version
 
 abbrev pub with_psc : SpacePacketHeader → PacketSequenceControl → SpacePacketHeader
 with_psc h p = header_of h.packet_id p h.data_len h.version
-
-abbrev pub header_kept : SpHeaderSet → Kept SpacePacketHeader
-header_kept r = record { passed = check_answer r.result; kept = r.header }
 
 -- every field is the same; that the headers then are equal, and only then, is the theorem `same-header`
 unfoldable pub same_header : SpacePacketHeader → SpacePacketHeader → Bool

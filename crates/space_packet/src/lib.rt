@@ -1,16 +1,20 @@
 // The space packet primary header of CCSDS 133.0-B-2, and the refusals that every crate above answers with.
-#![tactic(auto)]
+#![tactic(auto, unfolding(crate::specs::Answer::and_then, crate::specs::Answer::set_if, crate::specs::Answer::refuse_if))]
 
 ghost use Rattle.std.specs.Prelude.{◌≡◌, ◌++◌, true, false, ◌-◌, ◌^◌, ◌≤◌, length, drop, get_or, eqb};
-ghost use Rattle.space_packet.specs.Answer.{bytes_numbers, numbers_of, in_numbers, gives, ◌then◌, set_if, in_range, check_answer};
+ghost use Rattle.space_packet.specs.Answer.{bytes_numbers, numbers_of, in_numbers, gives, ◌then◌, set_if, in_range, answer_of, outcome};
 ghost use Rattle.space_packet.specs.Bits.{be16, word};
-ghost use Rattle.space_packet.specs.Fields.{apid_check, count_check, is_idle, apid_answer, seq_count_answer, type_number, type_of, flags_number, flags_of, id_raw, id_of, psc_raw, psc_of, id_with_apid, id_kept};
-ghost use Rattle.space_packet.specs.Header.{header_octets, packet_len, InRange, header_check, sp_header_answer, header_read, header_write, header_of, id_from, psc_from, with_id, with_psc, header_kept, same_header};
+ghost use Rattle.space_packet.specs.Fields.{apid_check, count_check, is_idle, type_number, type_of, flags_number, flags_of, id_raw, id_of, psc_raw, psc_of, id_with_apid};
+ghost use Rattle.space_packet.specs.Header.{header_octets, packet_len, InRange, header_check, header_read, header_write, header_of, id_from, psc_from, with_id, with_psc};
 ghost use Rattle.space_packet.specs.Part.{beyond, reached};
 ghost use Rattle.space_packet.specs.Wrote.{Wrote};
 ghost use Rattle.space_packet.specs.declared.PacketType.TheVariants.{Tm, Tc};
 ghost use Rattle.space_packet.specs.declared.SequenceFlags.TheVariants.{Unsegmented};
 ghost use Rattle.space_packet.specs.declared.SpacePacketHeader.{SpacePacketHeader};
+
+mod packet;
+
+pub use packet::CcsdsPacket;
 
 // Length of the primary header.
 pub const CCSDS_HEADER_LEN: usize = 6;
@@ -25,14 +29,14 @@ fn header_len() -> usize
 // ---- refusals
 
 // Why octets could not be written or read: how many there were, and how many it takes.
-#[derive(Clone, Copy)]
+#[derive(Clone, Copy, PartialEq, Eq)]
 pub enum ByteConversionError {
     ToSliceTooSmall { found: usize, expected: usize },
     FromSliceTooSmall { found: usize, expected: usize },
 }
 
 // Every refusal of the library, in the order of its numbers. 5 is retired: it was the Rust's CrcCalculationMissing, and stays unused.
-#[derive(Clone, Copy)]
+#[derive(Clone, Copy, PartialEq, Eq)]
 pub enum PusError {
     // 1 and 2
     ByteConversion(ByteConversionError),
@@ -98,7 +102,7 @@ pub enum PusError {
 }
 
 // A refusal in numbers: its own, how many values it has, and these, with 0 for what it has not.
-#[derive(Clone, Copy)]
+#[derive(Clone, Copy, PartialEq, Eq)]
 pub struct RefusalNumbers {
     pub number: u8,
     pub count: usize,
@@ -181,48 +185,24 @@ impl PusError {
     }
 }
 
-// The Rust's Result<(), PusError>.
-#[derive(Clone, Copy)]
-pub enum CheckResult {
-    Ok,
-    Err(PusError),
-}
-
-// The Rust's Result<usize, PusError>: how many octets were written.
-#[derive(Clone, Copy)]
-pub enum SizeResult {
-    Ok(usize),
-    Err(PusError),
-}
-
 // 7 where the value is above the largest of its field.
-fn in_range(place: u8, largest: u16, value: u16) -> CheckResult
-    ensures { check_answer result ≡ in_range place largest value }
+fn in_range(place: u8, largest: u16, value: u16) -> Result<(), PusError>
+    ensures { answer_of result ≡ in_range place largest value }
 {
     if largest < value {
-        return CheckResult::Err(PusError::FieldRange { place, value });
+        return Err(PusError::FieldRange { place, value });
     }
-    CheckResult::Ok
-}
-
-// The refusal of the first check, or what the second answers.
-fn first(a: CheckResult, b: CheckResult) -> CheckResult
-    ensures { check_answer result ≡ (check_answer a then λ _. check_answer b) }
-{
-    let CheckResult::Ok = a else {
-        return a;
-    };
-    b
+    Ok(())
 }
 
 // ---- the numbers that have a width of their own
 
 // An application process ID, 11 bits.
-#[derive(Clone, Copy)]
+#[derive(Clone, Copy, PartialEq, Eq)]
 pub struct Apid(u16);
 
 // A packet sequence count, 14 bits.
-#[derive(Clone, Copy)]
+#[derive(Clone, Copy, PartialEq, Eq)]
 pub struct SeqCount(u16);
 
 pub const MAX_APID: Apid = Apid(2047);
@@ -251,28 +231,13 @@ fn max_seq_count() -> SeqCount
     MAX_SEQ_COUNT
 }
 
-#[derive(Clone, Copy)]
-pub enum ApidResult {
-    Ok(Apid),
-    Err(PusError),
-}
-
-#[derive(Clone, Copy)]
-pub enum SeqCountResult {
-    Ok(SeqCount),
-    Err(PusError),
-}
-
 impl Apid {
-    pub fn new(value: u16) -> ApidResult
-        ensures { apid_answer result ≡ (in_range 2 2047 value then λ _. gives (record { 0 = value })) }
+    pub fn new(value: u16) -> Result<Apid, PusError>
+        ensures { answer_of result ≡ (in_range 2 2047 value then λ _. gives (record { 0 = value })) }
     {
         let apid = Apid(value);
-        let c = apid.check();
-        if let CheckResult::Err(e) = c {
-            return ApidResult::Err(e);
-        }
-        ApidResult::Ok(apid)
+        apid.check()?;
+        Ok(apid)
     }
 
     pub fn value(self) -> u16
@@ -282,8 +247,8 @@ impl Apid {
     }
 
     // What a setter and a write ask of an APID that is handed in.
-    pub fn check(self) -> CheckResult
-        ensures { check_answer result ≡ apid_check self }
+    pub fn check(self) -> Result<(), PusError>
+        ensures { answer_of result ≡ apid_check self }
     {
         in_range(2, MAX_APID.0, self.0)
     }
@@ -297,15 +262,12 @@ impl Apid {
 }
 
 impl SeqCount {
-    pub fn new(value: u16) -> SeqCountResult
-        ensures { seq_count_answer result ≡ (in_range 3 16383 value then λ _. gives (record { 0 = value })) }
+    pub fn new(value: u16) -> Result<SeqCount, PusError>
+        ensures { answer_of result ≡ (in_range 3 16383 value then λ _. gives (record { 0 = value })) }
     {
         let count = SeqCount(value);
-        let c = count.check();
-        if let CheckResult::Err(e) = c {
-            return SeqCountResult::Err(e);
-        }
-        SeqCountResult::Ok(count)
+        count.check()?;
+        Ok(count)
     }
 
     pub fn value(self) -> u16
@@ -315,8 +277,8 @@ impl SeqCount {
     }
 
     // What a setter and a write ask of a count that is handed in.
-    pub fn check(self) -> CheckResult
-        ensures { check_answer result ≡ count_check self }
+    pub fn check(self) -> Result<(), PusError>
+        ensures { answer_of result ≡ count_check self }
     {
         in_range(3, MAX_SEQ_COUNT.0, self.0)
     }
@@ -324,7 +286,7 @@ impl SeqCount {
 
 // ---- the packet type and the sequence flags
 
-#[derive(Clone, Copy)]
+#[derive(Clone, Copy, PartialEq, Eq)]
 pub enum PacketType {
     Tm,
     Tc,
@@ -352,7 +314,7 @@ impl PacketType {
     }
 }
 
-#[derive(Clone, Copy)]
+#[derive(Clone, Copy, PartialEq, Eq)]
 pub enum SequenceFlags {
     ContinuationSegment,
     FirstSegment,
@@ -398,27 +360,35 @@ pub fn packet_type_in_raw_packet_id(packet_id: u16) -> PacketType
 
 // ---- the packet ID: the last thirteen bits of the first two octets
 
-#[derive(Clone, Copy)]
+#[derive(Clone, Copy, PartialEq, Eq)]
 pub struct PacketId {
     pub packet_type: PacketType,
     pub sec_header_flag: bool,
     pub apid: Apid,
 }
 
-// What a setter hands back: the new packet ID, or the old one with the refusal.
-#[derive(Clone, Copy)]
-pub struct PacketIdSet {
-    pub packet_id: PacketId,
-    pub result: CheckResult,
+impl Default for PacketId {
+    ghost is_default = { λ i. i ≡ id_from Tm false (record { 0 = 0 }) };
+
+    fn default() -> PacketId {
+        PacketId::new(PacketType::Tm, false, Apid(0))
+    }
+}
+
+impl From<u16> for PacketId {
+    ghost from_gives = { λ raw i. i ≡ id_of raw };
+
+    // The packet ID of the last thirteen bits of a word.
+    fn from(raw: u16) -> PacketId {
+        PacketId::new(
+            packet_type_in_raw_packet_id(raw),
+            raw / 2048 % 2 == 1,
+            Apid(raw % 2048),
+        )
+    }
 }
 
 impl PacketId {
-    pub fn default() -> PacketId
-        ensures { result ≡ id_from Tm false (record { 0 = 0 }) }
-    {
-        PacketId::new(PacketType::Tm, false, Apid(0))
-    }
-
     pub fn new_for_tc(sec_header: bool, apid: Apid) -> PacketId
         ensures { result ≡ id_from Tc sec_header apid }
     {
@@ -441,20 +411,13 @@ impl PacketId {
         }
     }
 
-    // 7 where the APID is over its width.
-    pub fn set_apid(self, apid: Apid) -> PacketIdSet
-        ensures { id_kept result ≡ set_if (apid_check apid) self (id_with_apid self apid) }
+    // 7 where the APID is over its width; the packet ID then stays as it was.
+    pub fn set_apid(&mut self, apid: Apid) -> Result<(), PusError>
+        ensures { outcome result self.new ≡ set_if (apid_check apid) self.old (id_with_apid self.old apid) }
     {
-        let result = apid.check();
-        let CheckResult::Ok = result else {
-            return PacketIdSet {
-                packet_id: self,
-                result,
-            };
-        };
-        let mut packet_id = self;
-        packet_id.apid = apid;
-        PacketIdSet { packet_id, result }
+        apid.check()?;
+        self.apid = apid;
+        Ok(())
     }
 
     pub fn apid(self) -> Apid
@@ -467,30 +430,29 @@ impl PacketId {
     pub fn raw(self) -> u16
         ensures { result ≡ id_raw self }
     {
-        let packet_type = self.packet_type;
-        let t = packet_type.raw_value() as u16;
+        let t = self.packet_type.raw_value() as u16;
         let f = self.sec_header_flag as u16;
         t * 4096 + f * 2048 + self.apid.0 % 2048
-    }
-
-    // The packet ID of the last thirteen bits of a word.
-    pub fn from(raw: u16) -> PacketId
-        ensures { result ≡ id_of raw }
-    {
-        PacketId::new(
-            packet_type_in_raw_packet_id(raw),
-            raw / 2048 % 2 == 1,
-            Apid(raw % 2048),
-        )
     }
 }
 
 // ---- the packet sequence control: the third and the fourth octet
 
-#[derive(Clone, Copy)]
+#[derive(Clone, Copy, PartialEq, Eq)]
 pub struct PacketSequenceControl {
     pub seq_flags: SequenceFlags,
     pub seq_count: SeqCount,
+}
+
+impl From<u16> for PacketSequenceControl {
+    ghost from_gives = { λ raw p. p ≡ psc_of raw };
+
+    fn from(raw: u16) -> PacketSequenceControl {
+        PacketSequenceControl::new(
+            SequenceFlags::new_with_raw_value((raw / 16384) as u8),
+            SeqCount(raw % 16384),
+        )
+    }
 }
 
 impl PacketSequenceControl {
@@ -506,24 +468,14 @@ impl PacketSequenceControl {
     pub fn raw(self) -> u16
         ensures { result ≡ psc_raw self }
     {
-        let seq_flags = self.seq_flags;
-        let f = seq_flags.raw_value() as u16;
+        let f = self.seq_flags.raw_value() as u16;
         f * 16384 + self.seq_count.0 % 16384
-    }
-
-    pub fn from(raw: u16) -> PacketSequenceControl
-        ensures { result ≡ psc_of raw }
-    {
-        PacketSequenceControl::new(
-            SequenceFlags::new_with_raw_value((raw / 16384) as u8),
-            SeqCount(raw % 16384),
-        )
     }
 }
 
 // ---- the primary header
 
-#[derive(Clone, Copy)]
+#[derive(Clone, Copy, PartialEq, Eq)]
 pub struct SpacePacketHeader {
     // The packet version number, 3 bits.
     pub version: u8,
@@ -535,27 +487,11 @@ pub struct SpacePacketHeader {
 
 pub type SpHeader = SpacePacketHeader;
 
-#[derive(Clone, Copy)]
-pub enum SpHeaderResult {
-    Ok(SpacePacketHeader),
-    Err(PusError),
-}
-
-// What a setter hands back: the new header, or the old one with the refusal.
-#[derive(Clone, Copy)]
-pub struct SpHeaderSet {
-    pub header: SpacePacketHeader,
-    pub result: CheckResult,
-}
-
 // The octet at `at`, or 0 past the end.
 pub fn octet_at(s: &[u8], at: usize) -> u8
     ensures { result ≡ get_or s.now at 0 }
 {
-    if s.len() <= at {
-        return 0;
-    }
-    s[at]
+    s.get(at).copied().unwrap_or(0)
 }
 
 // The sixteen bits in the octets at `at` and after it; an octet past the end counts as 0.
@@ -581,6 +517,15 @@ fn put_words(w0: u16, w1: u16, w2: u16, buf: &mut [u8])
     buf[5] = (w2 % 256) as u8;
 }
 
+impl Default for SpacePacketHeader {
+    ghost is_default = { λ h. h ≡ header_of (id_from Tm false (record { 0 = 0 })) (psc_from Unsegmented (record { 0 = 0 })) 0 0 };
+
+    // Unsegmented, with every other field 0.
+    fn default() -> SpacePacketHeader {
+        SpacePacketHeader::new_from_apid(Apid(0))
+    }
+}
+
 impl SpacePacketHeader {
     pub const LENGTH: usize = CCSDS_HEADER_LEN;
 
@@ -589,13 +534,6 @@ impl SpacePacketHeader {
         ensures { (h : SpacePacketHeader) → result ≡ length (header_octets h) }
     {
         SpacePacketHeader::LENGTH
-    }
-
-    // Unsegmented, with every other field 0.
-    pub fn default() -> SpacePacketHeader
-        ensures { result ≡ header_of (id_from Tm false (record { 0 = 0 })) (psc_from Unsegmented (record { 0 = 0 })) 0 0 }
-    {
-        SpacePacketHeader::new_from_apid(Apid(0))
     }
 
     pub fn new(packet_id: PacketId, psc: PacketSequenceControl, data_len: u16) -> SpacePacketHeader
@@ -687,14 +625,11 @@ impl SpacePacketHeader {
         psc: PacketSequenceControl,
         data_len: u16,
         version: u8,
-    ) -> SpHeaderResult
-        ensures { sp_header_answer result ≡ (in_range 1 7 version then λ _. gives (header_of packet_id psc data_len version)) }
+    ) -> Result<SpacePacketHeader, PusError>
+        ensures { answer_of result ≡ (in_range 1 7 version then λ _. gives (header_of packet_id psc data_len version)) }
     {
-        let c = in_range(1, 7, version as u16);
-        if let CheckResult::Err(e) = c {
-            return SpHeaderResult::Err(e);
-        }
-        SpHeaderResult::Ok(SpacePacketHeader {
+        in_range(1, 7, version as u16)?;
+        Ok(SpacePacketHeader {
             version,
             packet_id,
             psc,
@@ -702,79 +637,44 @@ impl SpacePacketHeader {
         })
     }
 
-    // ---- setters; the first two answer 7 where what is handed in is over its width
+    // ---- setters; the first two answer 7 where what is handed in is over its width, and the header then stays as it was
 
-    pub fn set_apid(self, apid: Apid) -> SpHeaderSet
-        ensures { header_kept result ≡ set_if (apid_check apid) self (with_id self (id_with_apid self.packet_id apid)) }
+    pub fn set_apid(&mut self, apid: Apid) -> Result<(), PusError>
+        ensures { outcome result self.new ≡ set_if (apid_check apid) self.old (with_id self.old (id_with_apid self.old.packet_id apid)) }
     {
-        let id = self.packet_id;
-        let set = id.set_apid(apid);
-        let packet_id = set.packet_id;
-        let result = set.result;
-        SpHeaderSet {
-            header: self.with_packet_id(packet_id),
-            result,
-        }
+        self.packet_id.set_apid(apid)
     }
 
-    pub fn set_seq_count(self, seq_count: SeqCount) -> SpHeaderSet
-        ensures { header_kept result ≡ set_if (count_check seq_count) self (with_psc self (psc_from self.psc.seq_flags seq_count)) }
+    pub fn set_seq_count(&mut self, seq_count: SeqCount) -> Result<(), PusError>
+        ensures { outcome result self.new ≡ set_if (count_check seq_count) self.old (with_psc self.old (psc_from self.old.psc.seq_flags seq_count)) }
     {
-        let result = seq_count.check();
-        let CheckResult::Ok = result else {
-            return SpHeaderSet {
-                header: self,
-                result,
-            };
-        };
-        SpHeaderSet {
-            header: self.with_psc(PacketSequenceControl::new(self.sequence_flags(), seq_count)),
-            result,
-        }
+        seq_count.check()?;
+        self.psc.seq_count = seq_count;
+        Ok(())
     }
 
-    fn with_psc(self, psc: PacketSequenceControl) -> SpacePacketHeader
-        ensures { result ≡ with_psc self psc }
+    pub fn set_seq_flags(&mut self, seq_flags: SequenceFlags)
+        ensures { self.new ≡ with_psc self.old (psc_from seq_flags self.old.psc.seq_count) }
     {
-        let mut header = self;
-        header.psc = psc;
-        header
+        self.psc.seq_flags = seq_flags;
     }
 
-    fn with_packet_id(self, packet_id: PacketId) -> SpacePacketHeader
-        ensures { result ≡ with_id self packet_id }
+    pub fn set_sec_header_flag(&mut self)
+        ensures { self.new ≡ with_id self.old (id_from self.old.packet_id.packet_type true self.old.packet_id.apid) }
     {
-        let mut header = self;
-        header.packet_id = packet_id;
-        header
+        self.packet_id.sec_header_flag = true;
     }
 
-    pub fn set_seq_flags(self, seq_flags: SequenceFlags) -> SpacePacketHeader
-        ensures { result ≡ with_psc self (psc_from seq_flags self.psc.seq_count) }
+    pub fn clear_sec_header_flag(&mut self)
+        ensures { self.new ≡ with_id self.old (id_from self.old.packet_id.packet_type false self.old.packet_id.apid) }
     {
-        self.with_psc(PacketSequenceControl::new(seq_flags, self.seq_count()))
+        self.packet_id.sec_header_flag = false;
     }
 
-    pub fn set_sec_header_flag(self) -> SpacePacketHeader
-        ensures { result ≡ with_id self (id_from self.packet_id.packet_type true self.packet_id.apid) }
+    pub fn set_packet_type(&mut self, packet_type: PacketType)
+        ensures { self.new ≡ with_id self.old (id_from packet_type self.old.packet_id.sec_header_flag self.old.packet_id.apid) }
     {
-        let mut packet_id = self.packet_id;
-        packet_id.sec_header_flag = true;
-        self.with_packet_id(packet_id)
-    }
-
-    pub fn clear_sec_header_flag(self) -> SpacePacketHeader
-        ensures { result ≡ with_id self (id_from self.packet_id.packet_type false self.packet_id.apid) }
-    {
-        let mut packet_id = self.packet_id;
-        packet_id.sec_header_flag = false;
-        self.with_packet_id(packet_id)
-    }
-
-    pub fn set_packet_type(self, packet_type: PacketType) -> SpacePacketHeader
-        ensures { result ≡ with_id self (id_from packet_type self.packet_id.sec_header_flag self.packet_id.apid) }
-    {
-        self.with_packet_id(PacketId::new(packet_type, self.sec_header_flag(), self.apid()))
+        self.packet_id.packet_type = packet_type;
     }
 
     // ---- reading
@@ -813,36 +713,31 @@ impl SpacePacketHeader {
     pub fn packet_id_raw(self) -> u16
         ensures { result ≡ id_raw self.packet_id }
     {
-        let packet_id = self.packet_id;
-        packet_id.raw()
+        self.packet_id.raw()
     }
 
     pub fn psc_raw(self) -> u16
         ensures { result ≡ psc_raw self.psc }
     {
-        let psc = self.psc;
-        psc.raw()
+        self.psc.raw()
     }
 
     pub fn packet_type(self) -> PacketType
         ensures { result ≡ self.packet_id.packet_type }
     {
-        let packet_id = self.packet_id;
-        packet_id.packet_type
+        self.packet_id.packet_type
     }
 
     pub fn is_tm(self) -> bool
         ensures { result ≡ eqb (type_number self.packet_id.packet_type) 0 }
     {
-        let packet_type = self.packet_type();
-        packet_type.raw_value() == 0
+        self.packet_type() == PacketType::Tm
     }
 
     pub fn is_tc(self) -> bool
         ensures { result ≡ eqb (type_number self.packet_id.packet_type) 1 }
     {
-        let packet_type = self.packet_type();
-        packet_type.raw_value() == 1
+        self.packet_type() == PacketType::Tc
     }
 
     pub fn sec_header_flag(self) -> bool
@@ -866,43 +761,23 @@ impl SpacePacketHeader {
     pub fn sequence_flags(self) -> SequenceFlags
         ensures { result ≡ self.psc.seq_flags }
     {
-        let psc = self.psc;
-        psc.seq_flags
-    }
-
-    // Whether every field is the same.
-    pub fn eq(self, other: SpacePacketHeader) -> bool
-        ensures { result ≡ same_header self other }
-    {
-        let t = self.packet_type();
-        let u = other.packet_type();
-        let f = self.sequence_flags();
-        let g = other.sequence_flags();
-        (self.version == other.version)
-            & (t.raw_value() == u.raw_value())
-            & (self.packet_id.sec_header_flag == other.packet_id.sec_header_flag)
-            & (self.packet_id.apid.0 == other.packet_id.apid.0)
-            & (f.raw_value() == g.raw_value())
-            & (self.psc.seq_count.0 == other.psc.seq_count.0)
-            & (self.data_len == other.data_len)
+        self.psc.seq_flags
     }
 
     // ---- octets
 
     // The header that octets begin with; 2 where there are fewer than six.
-    pub fn from_be_bytes(buf: &[u8]) -> SpHeaderResult
-        ensures { sp_header_answer result ≡ header_read buf.now }
+    pub fn from_be_bytes(buf: &[u8]) -> Result<SpacePacketHeader, PusError>
+        ensures { answer_of result ≡ header_read buf.now }
     {
         if buf.len() < SpacePacketHeader::LENGTH {
-            return SpHeaderResult::Err(PusError::ByteConversion(
-                ByteConversionError::FromSliceTooSmall {
-                    found: buf.len(),
-                    expected: SpacePacketHeader::LENGTH,
-                },
-            ));
+            return Err(PusError::ByteConversion(ByteConversionError::FromSliceTooSmall {
+                found: buf.len(),
+                expected: SpacePacketHeader::LENGTH,
+            }));
         }
         let w = word_at(buf, 0);
-        SpHeaderResult::Ok(SpacePacketHeader {
+        Ok(SpacePacketHeader {
             version: (w / 8192) as u8,
             packet_id: PacketId::from(w),
             psc: PacketSequenceControl::from(word_at(buf, 2)),
@@ -922,35 +797,28 @@ impl SpacePacketHeader {
     }
 
     // The first field over its width, as 7.
-    pub fn check(self) -> CheckResult
-        ensures { check_answer result ≡ header_check self }
+    #[tactic(auto, unfolding(crate::specs::Answer::and_then, crate::specs::Header::header_check))]
+    pub fn check(self) -> Result<(), PusError>
+        ensures { answer_of result ≡ header_check self }
     {
-        let apid = self.packet_id.apid;
-        let count = self.psc.seq_count;
-        first(
-            in_range(1, 7, self.version as u16),
-            first(apid.check(), count.check()),
-        )
+        in_range(1, 7, self.version as u16)?;
+        self.packet_id.apid.check()?;
+        self.psc.seq_count.check()
     }
 
     // Writes the six octets; 7, then 1.
-    pub fn write_to_slice(self, buf: &mut [u8]) -> SizeResult
+    pub fn write_to_slice(self, buf: &mut [u8]) -> Result<usize, PusError>
         ensures { Wrote (header_write self (length buf.old)) (header_octets self) buf.old result buf.new }
     {
-        let c = self.check();
-        if let CheckResult::Err(e) = c {
-            return SizeResult::Err(e);
-        }
+        self.check()?;
         if buf.len() < SpacePacketHeader::LENGTH {
-            return SizeResult::Err(PusError::ByteConversion(
-                ByteConversionError::ToSliceTooSmall {
-                    found: buf.len(),
-                    expected: SpacePacketHeader::LENGTH,
-                },
-            ));
+            return Err(PusError::ByteConversion(ByteConversionError::ToSliceTooSmall {
+                found: buf.len(),
+                expected: SpacePacketHeader::LENGTH,
+            }));
         }
         self.put(buf);
-        SizeResult::Ok(SpacePacketHeader::LENGTH)
+        Ok(SpacePacketHeader::LENGTH)
     }
 
     fn put(self, buf: &mut [u8])

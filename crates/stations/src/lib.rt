@@ -1,14 +1,13 @@
 // Best of two stations: of two captures of one telemetry packet, the packet as a part of the one that passes the strict verdict.
-#![tactic(auto)]
+#![tactic(auto, using(crate::proofs::Choices::parts), unfolding(crate::specs::Best::chosen))]
 
 ghost use Rattle.std.specs.Prelude.{◌≡◌};
 ghost use Rattle.stations.specs.Best.{chosen, best_in, best_at, station_answer};
 
-use ecss::PusError;
-use tm_strict::Verdict;
+use space_packet::PusError;
 
 // The station whose capture passes, or both refusals.
-#[derive(Clone, Copy)]
+#[derive(Clone, Copy, PartialEq, Eq)]
 pub enum Station {
     First,
     Second,
@@ -19,16 +18,12 @@ pub enum Station {
 pub fn best_station(time_len: u8, first: &[u8], second: &[u8]) -> Station
     ensures { station_answer result ≡ chosen time_len first.now second.now }
 {
-    let v = tm_strict::judge(time_len, first);
-    match v {
-        Verdict::Accepted(_) => Station::First,
-        Verdict::Refused(d) => {
-            let w = tm_strict::judge(time_len, second);
-            match w {
-                Verdict::Accepted(_) => Station::Second,
-                Verdict::Refused(e) => Station::Neither(d, e),
-            }
-        }
+    match tm_strict::judge(time_len, first) {
+        Ok(_) => Station::First,
+        Err(d) => match tm_strict::judge(time_len, second) {
+            Ok(_) => Station::Second,
+            Err(e) => Station::Neither(d, e),
+        },
     }
 }
 
@@ -37,8 +32,7 @@ pub fn best<'a>(time_len: u8, first: &'a [u8], second: &'a [u8]) -> &'a [u8]
     ensures result_value { result.now ≡ best_in time_len first.now second.now }
     ensures ref_ptr_value { result.ref_ptr ≡ best_at time_len first.now second.now first.entry.ref_ptr second.entry.ref_ptr }
 {
-    let station = best_station(time_len, first, second);
-    match station {
+    match best_station(time_len, first, second) {
         Station::First => tm_read::raw_data(time_len, first, true),
         Station::Second => tm_read::raw_data(time_len, second, true),
         Station::Neither(_, _) => &first[..0],

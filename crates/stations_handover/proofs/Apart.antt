@@ -49,3 +49,6 @@ module _ (t : ℕ) where
   pub long-time : 16 < t → (a b : List ℕ) → (chosen t a b ≡ neither (refusal 14 []) (refusal 14 [])) × (best_in t a b ≡ [])
   long-time h a b =
       let n = neither-is a b (refusal 14 [], long-refused h a) (refusal 14 [], long-refused h b) in (n.answer, n.part)
+
+-- what the check uses for the two calls
+pub ruleset apart = (second-apart, first-apart)

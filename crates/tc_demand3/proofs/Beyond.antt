@@ -13,7 +13,7 @@ use Rattle.crc_register.proofs.Linear.{bits_of-⊕}
 use Rattle.detect.specs.Errors.{ones, reach, UpToThree}
 use Rattle.detect.specs.Order.{power_and_one}
 use Rattle.detect.proofs.Most.{most}
-use Rattle.space_packet.specs.Answer.{gives, refuse_if, ◌then◌}
+use Rattle.space_packet.specs.Answer.{gives, refuse_if, and_then}
 use Rattle.space_packet.specs.Fields.{id_of, psc_of}
 use Rattle.space_packet.specs.Header.{read_header}
 use Rattle.space_packet.proofs.Answers.{gives_then}
@@ -56,7 +56,7 @@ differ =
     ∙ ap bits_of (add_back sent error refl)
 
 pub beyond : Beyond
-unfolding sealed add_octets ◌⊕◌ refuse_if ◌then◌ id_of psc_of read_header pus_rule strict_rule all_zero tc_of
+unfolding sealed add_octets ◌⊕◌ refuse_if and_then id_of psc_of read_header pus_rule strict_rule all_zero tc_of
 beyond =
     record {
       total = refl;

@@ -1,7 +1,7 @@
 -- The cases at the edges hold: each is computed from the definitions.
 use mathlib.Core.Path.{refl}
 use Rattle.crc_register.specs.Crc.{◌⊕◌, bit, shift_in, run, octet_bits, bits_of, crc_from}
-use Rattle.space_packet.specs.Answer.{refuse_if, ◌then◌}
+use Rattle.space_packet.specs.Answer.{refuse_if, and_then}
 use Rattle.space_packet.specs.Fields.{id_of, psc_of}
 use Rattle.space_packet.specs.Header.{read_header}
 use Rattle.ecss.specs.Frame.{frame_of, checked_of, frame_after, checked_after}
@@ -14,7 +14,7 @@ use Rattle.tc_strict.specs.Verdict.{strict_in}
 use Rattle.tc_demand3.specs.Cases.{Cases}
 
 pub cases-hold : Cases
-unfolding ◌⊕◌ bit shift_in run octet_bits bits_of crc_from refuse_if ◌then◌ id_of psc_of read_header frame_of checked_of frame_after checked_after machine_total length_field pus_rule strict_rule read_as judge form_check all_zero tc_of record_in read_in checked_in strict_in
+unfolding ◌⊕◌ bit shift_in run octet_bits bits_of crc_from refuse_if and_then id_of psc_of read_header frame_of checked_of frame_after checked_after machine_total length_field pus_rule strict_rule read_as judge form_check all_zero tc_of record_in read_in checked_in strict_in
 cases-hold =
     record {
       p1 = refl;

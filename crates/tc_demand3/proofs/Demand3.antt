@@ -8,10 +8,11 @@ use mathlib.Core.Bool.{true, false}
 use mathlib.Core.List.{List, [], ◌++◌}
 use native.Mathlib.Omega.{arith}
 use lib.ListN.{length, take, drop}
+use Rattle.std.specs.Prelude.{Result}
+use Rattle.space_packet.specs.declared.PusError.{PusError}
 use Rattle.space_packet.specs.Answer.{Numbers, gives, refuses, refusal}
 use Rattle.space_packet.specs.Fields.{is_idle}
 use Rattle.space_packet.specs.declared.SpacePacketHeader.{SpacePacketHeader}
-use Rattle.space_packet.specs.declared.SizeResult.{SizeResult}
 use Rattle.space_packet.proofs.Answers.{gives-inj, gives_then, then-gives}
 use Rattle.ecss.specs.Frame.{Octets, Told}
 use Rattle.ecss.specs.Kind.{Rules, BeginsWith, as_idle, packet_of}
@@ -103,7 +104,7 @@ module _ (f : TcForm) (good : form_check f ≡ gives tt) where
   -- 4. Written packets are accepted: whatever write_to_slice in both checksum forms, the builder's path, and the reserved writer
   -- with its finish leave in a buffer, for headers and data under those rules, is accepted, in a buffer of any length that has
   -- room and with anything after it. First write_to_slice, whose two forms have one contract:
-  pub written-accepted : (h : SpacePacketHeader) (x : PusTcSecondaryHeader) (d before after : List ℕ) (r : SizeResult)
+  pub written-accepted : (h : SpacePacketHeader) (x : PusTcSecondaryHeader) (d before after : List ℕ) (r : Result ℕ PusError)
       → Rules (tc f) (packet_by h x d) → Room (tc f) d before → PacketWrote (creator_in f h x true) d before r after
       → Accepted (tc f) (report_for f) (strict_in f) (packet_by h x d) before r after
   written-accepted = Any.written-accepted (command_in f) (writer-laws f good) (report_for f) (strict_in f) reports
@@ -120,7 +121,7 @@ module _ (f : TcForm) (good : form_check f ≡ gives tt) where
   -- and where the fields are in range too they make a creator t, and what t writes is accepted.
   pub built-accepted : (p : Telecommand) (before : List ℕ) → Handed (tc f) p → Room (tc f) p.user before
       → (t : PusTcCreator) × (new_in f p.primary p.secondary (length p.user) default_config ≡ gives t)
-      × ((r : SizeResult) (after : List ℕ) → PacketWrote t p.user before r after → Accepted (tc f) (report_for f) (strict_in f) (made_of (command_in f) p) before r after)
+      × ((r : Result ℕ PusError) (after : List ℕ) → PacketWrote t p.user before r after → Accepted (tc f) (report_for f) (strict_in f) (made_of (command_in f) p) before r after)
   built-accepted p before g k = (
     creator_in f (made_by (command_in f) p.primary p.user) p.secondary true,
     gives_then _ _ _ (handed-new (command_in f) (writer-laws f good) p.primary p.secondary p.user g),
@@ -130,7 +131,7 @@ module _ (f : TcForm) (good : form_check f ≡ gives tt) where
   -- Then the reserved writer: it gives a reservation q, and what is filled in there and finished is accepted.
   pub reserved-accepted : (p : Telecommand) (before : List ℕ) → Handed (tc f) p → Room (tc f) p.user before
       → (q : PusTcCreatorWithReservedAppData) × (reserve_in f p.primary p.secondary (length p.user) true (length before) ≡ gives q)
-      × ((r : SizeResult) (after : List ℕ) → FinishedBy (command_in f) (start_in q.form) q.held p before r after → Accepted (tc f) (report_for f) (strict_in f) (made_of (command_in f) p) before r after)
+      × ((r : Result ℕ PusError) (after : List ℕ) → FinishedBy (command_in f) (start_in q.form) q.held p before r after → Accepted (tc f) (report_for f) (strict_in f) (made_of (command_in f) p) before r after)
   reserved-accepted p before g k = (
     reservation_in f (total_for (tc f) p.user) true,
     gives_then _ _ _ (handed-reserve (command_in f) (writer-laws f good) p.primary p.secondary p.user (length before) g k.fits k.is_slice),

@@ -1,13 +1,12 @@
 -- The cases at the edges, P1 to P12 of PUS C, four of PUS A, five of idle packets and nine of spare octets, as one table of what the
 -- definitions answer.
-use Rattle.std.specs.Prelude.{◌≡◌, true, false, List, [], ◌∷◌, ◌++◌, ℕ, ◌+◌, ◌*◌}
+use Rattle.std.specs.Prelude.{◌≡◌, true, false, List, [], ◌∷◌, ◌++◌, ℕ, ◌+◌, ◌*◌, Some, None}
 use Rattle.crc_register.specs.Crc.{crc_of}
 use Rattle.space_packet.specs.Answer.{gives, refuses, refusal}
 use Rattle.ecss_write.specs.Write.{length_field}
 use Rattle.ecss.specs.declared.PusVersion.TheVariants.{PusA, PusC}
 use Rattle.tc_read.specs.Read.{read_of, checked_in, checked_read}
 use Rattle.tc_read.specs.declared.PusTcRecord.{PusTcRecord}
-use Rattle.ecss.specs.declared.Crc16.TheVariants.{Some, None}
 use Rattle.space_packet.specs.declared.PacketType.TheVariants.{Tc}
 use Rattle.space_packet.specs.declared.SequenceFlags.TheVariants.{Unsegmented}
 use Rattle.space_packet.specs.declared.SpacePacketHeader.{SpacePacketHeader}

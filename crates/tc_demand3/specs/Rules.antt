@@ -1,19 +1,17 @@
 -- What the customer asks of the strict verdict on telecommands, over the form f: what every kind is asked (`exactness`,
 -- specs/Demand3.antt), with the most data and the report. The written rules are `Rules (tc f) p`, and that octets s begin with the
 -- packet of p under them is `BeginsWith (tc f) s p` (`ecss`, specs/Kind.antt); p is two headers and data.
-use Rattle.std.specs.Prelude.{◌+◌, ◌-◌, ◌≤◌, ◌≡◌, length}
+use Rattle.std.specs.Prelude.{◌+◌, ◌-◌, ◌≤◌, ◌≡◌, length, Some, Result}
+use Rattle.space_packet.specs.Answer.{answer_of, gives}
+use Rattle.space_packet.specs.declared.PusError.{PusError}
 use Rattle.crc_register.specs.Crc.{crc_of}
-use Rattle.space_packet.specs.Answer.{gives}
 use Rattle.ecss.specs.Kind.{Packet, content_of}
-use Rattle.ecss.specs.declared.Crc16.TheVariants.{Some}
 use Rattle.exactness.specs.Demand3.{total_for}
 use Rattle.tc_header.specs.Header.{tc}
 use Rattle.tc_header.specs.declared.TcForm.{TcForm}
 use Rattle.tc_header.specs.declared.PusTcSecondaryHeader.{PusTcSecondaryHeader}
 use Rattle.tc_read.specs.Read.{start_in}
 use Rattle.tc_read.specs.declared.PusTcRecord.{PusTcRecord}
-use Rattle.tc_strict.specs.Verdict.{verdict_answer}
-use Rattle.tc_strict.specs.declared.Verdict.{Verdict}
 
 -- headers and application data
 abbrev pub Telecommand : Type 0
@@ -36,5 +34,5 @@ module _ (f : TcForm) where
   }
 
   -- the verdict v accepts it and reports it
-  abbrev pub Accepts : Verdict → Telecommand → Type 0
-  Accepts v p = verdict_answer v ≡ gives (report_for p)
+  abbrev pub Accepts : Result PusTcRecord PusError → Telecommand → Type 0
+  Accepts v p = answer_of v ≡ gives (report_for p)

@@ -6,7 +6,7 @@ use mathlib.Core.List.{List, [], ◌∷◌}
 use lib.Dec.{ltb}
 use lib.ListN.{length}
 use borrow.Author.Tests.{ltb-false}
-use Rattle.space_packet.specs.Answer.{Answer, Numbers, Passed, gives, refuses, refusal, refuse_if, ◌then◌, in_buffer}
+use Rattle.space_packet.specs.Answer.{Answer, Numbers, Passed, gives, refuses, refusal, refuse_if, ◌then◌, in_buffer, and_then}
 use Rattle.space_packet.proofs.Answers.{never, refuse-gives, range-passes, then-gives, gives_then, then_same}
 use Rattle.tc_header.specs.Form.{form_c, form_check, source_len, SourceFits}
 use Rattle.tc_header.specs.Header.{ack_check, version_in, version_check, fields_check, widths_check, sec_checks, sec_write_in, sec_write, sec_read_in, sec_read, sec_of, tc}
@@ -30,15 +30,15 @@ fields-pass f x =
 
 module _ (f : TcForm) (x : PusTcSecondaryHeader) (n : ℕ) where
   pub checks-refused : (e : Numbers) → widths_check f x ≡ refuses e → sec_checks f x n ≡ refuses e
-  unfolding sec_checks ◌then◌
+  unfolding sec_checks and_then
   checks-refused e p = rw p refl
 
   pub checks-no-room : (e : Numbers) → widths_check f x ≡ gives tt → in_buffer n (tc f).size ≡ refuses e → sec_checks f x n ≡ refuses e
-  unfolding sec_checks ◌then◌
+  unfolding sec_checks and_then
   checks-no-room e p q = rw (p, q) refl
 
   pub checks-version : (m : ℕ) → widths_check f x ≡ gives tt → in_buffer n (tc f).size ≡ gives m → sec_checks f x n ≡ version_in f x.version
-  unfolding sec_checks ◌then◌
+  unfolding sec_checks and_then
   checks-version m p q = rw (p, q) refl
 
   by-answers : (a : Passed) (b : Answer ℕ) → widths_check f x ≡ a → in_buffer n (tc f).size ≡ b → sec_checks f x n ≡ gives tt
@@ -67,7 +67,7 @@ abbrev pub WriteC : PusTcSecondaryHeader → ℕ → Type 0
 WriteC x n = sec_write x n ≡ ((ack_check x.ack_flags then λ _. in_buffer n 5 then λ _. version_check x.version) then λ _. gives 5)
 
 write-by-answers : (x : PusTcSecondaryHeader) (n : ℕ) (a : Passed) (b : Answer ℕ) → ack_check x.ack_flags ≡ a → in_buffer n 5 ≡ b → WriteC x n
-unfolding sec_write_in ◌then◌
+unfolding sec_write_in and_then
 write-by-answers x n (refuses e) b p q = rw (p, checks-refused form_c x n e (widths-c x ∙ p)) refl
 write-by-answers x n (gives u) (refuses e) p q = rw (p, q, checks-no-room form_c x n e (widths-c x ∙ p) q) refl
 write-by-answers x n (gives u) (gives m) p q = rw (p, q, checks-version form_c x n m (widths-c x ∙ p) q) refl

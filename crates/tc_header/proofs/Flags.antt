@@ -1,22 +1,16 @@
 -- A flag that is set reads as it was set, and the others as they did: over the bit k of the flag, whose weight is 2 ^ k.
 -- Acceptance is bit 3, start 2, progress 1, completion 0.
-use Prim.Native.Nat.{ℕ, zero, suc, ◌+◌, ◌*◌, ◌/◌, ◌%◌, ◌^◌, ◌≤◌}
+use Prim.Native.Nat.{ℕ, zero, suc, ◌+◌, ◌*◌, ◌/◌, ◌%◌, ◌^◌}
 use mathlib.Core.Path.{◌≡◌, sym, ap, ◌∙◌}
-use mathlib.Core.Bool.{Bool, true, false}
+use mathlib.Core.Bool.{Bool}
 use native.Mathlib.Omega.{arith}
 use native.Mathlib.Nat.{mul_comm, mul_left_comm, pow-succ', one-le-pow, div-div-eq-div-mul}
-use mir.Val.{bool_byte}
 use lib.Arith.{mod-mul}
 use lib.Dec.{eqb, eqb-zero-suc, eqb-suc-zero, eqb-suc-suc}
 use Rattle.space_packet.specs.Bits.{pick, lowest, flag_number}
 use Rattle.space_packet.proofs.Numbers.{flag-back, flag-le}
 use Rattle.tc_header.specs.Header.{ack_of, with_flag}
 use Rattle.tc_header.specs.declared.AckFlags.{AckFlags}
-
--- a flag's share of the number is at most its weight
-pub flag-at-most : (v : Bool) (weight : ℕ) → bool_byte v * weight ≤ weight
-flag-at-most true weight = omega arith
-flag-at-most false weight = omega arith
 
 -- setting a bit above the lowest sets one in the half
 set-half : (k : ℕ) (a : AckFlags) (v : Bool) → (with_flag (2 ^ suc k) a v).0 ≡ 2 * (with_flag (2 ^ k) (ack_of (a.0 / 2)) v).0 + a.0 % 2

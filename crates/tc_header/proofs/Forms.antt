@@ -1,19 +1,19 @@
 -- What the forms ask: a form that is taken has a source ID of whole octets, at most two, and at most four spare octets; and the source
 -- ID by its octets.
-use Prim.Native.Nat.{ℕ, zero, suc, ◌+◌, ◌*◌, ◌/◌, ◌%◌, ◌≤◌, ◌<◌}
-use mathlib.Core.Path.{◌≡◌, refl, sym, ap, ap₂, ◌∙◌}
+use Prim.Native.Nat.{ℕ, zero, suc, ◌+◌, ◌*◌, ◌/◌, ◌%◌, ◌≤◌}
+use mathlib.Core.Path.{◌≡◌, refl, ap, ◌∙◌}
 use mathlib.Core.Logic.{◌↔◌}
 use mathlib.Core.Bool.{Bool, true, false, not, ◌||◌}
-use mathlib.Core.List.{List, [], ◌∷◌, ◌++◌, append-nil}
+use mathlib.Core.List.{List, [], ◌∷◌, ◌++◌}
 use native.Mathlib.Omega.{arith}
 use native.Mathlib.Nat.{mod-eq_of_lt}
 use lib.Dec.{eqb}
-use lib.ListN.{length, get_or, take, drop, set, take-append-drop}
-use lib.Seq.{drop-cons, drop-drop, take_at, drop_at, sets-eq}
-use borrow.Author.Tests.{eqb-true, not-false, lt-ltb, le-ltb, ltb-false}
-use Rattle.space_packet.specs.Bits.{be16, word}
-use Rattle.space_packet.specs.Answer.{gives, refuses, refusal}
-use Rattle.space_packet.proofs.Answers.{refuse-no, refuse-yes, refuse-gives, range-passes}
+use lib.ListN.{length, get_or, take, drop}
+use lib.Seq.{drop-cons}
+use borrow.Author.Tests.{eqb-true, not-false, le-ltb, ltb-false}
+use Rattle.space_packet.specs.Bits.{word}
+use Rattle.space_packet.specs.Answer.{gives}
+use Rattle.space_packet.proofs.Answers.{refuse-no, refuse-gives, range-passes}
 use Rattle.ecss.specs.Frame.{Octets}
 use Rattle.tc_header.specs.Form.{form_spare, form_c, is_width, form_check, source_len, source_octets, source_at, SourceFits, source_check}
 use Rattle.tc_header.specs.declared.TcForm.{TcForm}
@@ -45,14 +45,6 @@ module _ (f : TcForm) where
   pub form-passes : is_width f.source_width ≡ true → f.spare_len ≤ 4 → form_check f ≡ gives tt
   unfolding form_check
   form-passes e h = refuse-no _ _ _ (ap not e) ∙ refuse-no _ _ _ (le-ltb 4 _ h)
-
-  pub width-refused : is_width f.source_width ≡ false → form_check f ≡ refuses (refusal 32 [])
-  unfolding form_check
-  width-refused e = refuse-yes _ _ _ (ap not e)
-
-  pub spare-refused : is_width f.source_width ≡ true → 4 < f.spare_len → form_check f ≡ refuses (refusal 19 [])
-  unfolding form_check
-  spare-refused e h = refuse-no _ _ _ (ap not e) ∙ refuse-yes _ _ _ (lt-ltb 4 _ h)
 
 -- PUS C is taken, with up to four spare octets
 pub taken-spare : (n : ℕ) → n ≤ 4 → form_check (form_spare n) ≡ gives tt
@@ -102,45 +94,3 @@ pub source-passes : (n v : ℕ) → (source_check n v ≡ gives tt) ↔ SourceFi
 source-passes zero v = range-passes 5 0 v
 source-passes (suc zero) v = range-passes 5 255 v
 source-passes (suc (suc n)) v = (λ p. tt, λ h. refl)
-
--- ---- the source ID in code, which compares the octets with one
-
-pub source-wide : (n v : ℕ) → 1 < n → gives tt ≡ source_check n v
-source-wide zero v h = absurd (omega arith)
-source-wide (suc zero) v h = absurd (omega arith)
-source-wide (suc (suc n)) v h = refl
-
-pub source-over : (n v : ℕ) → n ≤ 1 → n * 255 < v → refuses (refusal 7 (5 ∷ v ∷ [])) ≡ source_check n v
-source-over zero v h k = sym (refuse-yes _ _ _ (lt-ltb 0 v (omega arith)))
-source-over (suc zero) v h k = sym (refuse-yes _ _ _ (lt-ltb 255 v (omega arith)))
-source-over (suc (suc n)) v h k = absurd (omega arith)
-
-pub source_in : (n v : ℕ) → n ≤ 1 → v ≤ n * 255 → gives tt ≡ source_check n v
-source_in zero v h k = sym (refuse-no _ _ _ (le-ltb 0 v (omega arith)))
-source_in (suc zero) v h k = sym (refuse-no _ _ _ (le-ltb 255 v (omega arith)))
-source_in (suc (suc n)) v h k = absurd (omega arith)
-
-pub wide_at : (n : ℕ) (l : List ℕ) → 1 < n → word l 3 ≡ source_at n l
-wide_at zero l h = absurd (omega arith)
-wide_at (suc zero) l h = absurd (omega arith)
-wide_at (suc (suc n)) l h = refl
-
--- stores behind three octets
-module _ (n v : ℕ) (m : List ℕ) where
-  abbrev sourced : ℕ → List ℕ
-  sourced k = take 3 m ++ source_octets k v ++ drop (3 + k) m
-
-  pub put-none : n ≡ 0 → m ≡ sourced n
-  put-none e = sym (ap sourced e ∙ ap (λ (z : List ℕ). z ++ drop 3 m) (append-nil (take 3 m)) ∙ take-append-drop 3 m)
-
-  pub put_one : n ≡ 1 → 4 ≤ length m → set m 3 (v % 256) ≡ sourced n
-  put_one e h = sets-eq (v % 256 ∷ []) m 3 h ∙ ap sourced (sym e)
-
-  pub put_two : n ≡ 2 → 5 ≤ length m → set (set m 3 (v / 256)) 4 (v % 256) ≡ sourced n
-  put_two e h = sets-eq (be16 v) m 3 h ∙ ap sourced (sym e)
-
--- stores behind the a octets t, where these were written before
-pub behind : (a n : ℕ) (m s t o : List ℕ) → length t ≡ a → s ≡ t ++ drop a m → take a s ++ o ++ drop (a + n) s ≡ t ++ o ++ drop (a + n) m
-behind a n m s t o e p =
-    ap₂ (λ (y z : List ℕ). y ++ o ++ z) (ap (take a) p ∙ take_at t (drop a m) a e)
-    (sym (drop-drop n a s) ∙ ap (λ (y : List ℕ). drop n (drop a y)) p ∙ ap (drop n) (drop_at t (drop a m) a e) ∙ drop-drop n a m)

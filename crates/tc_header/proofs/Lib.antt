@@ -2,7 +2,6 @@ pub mod Checks
 pub mod Forms
 pub mod Spares
 pub mod Laws
-pub mod Determined
 pub mod Flags
 pub mod Rows
 pub mod Same

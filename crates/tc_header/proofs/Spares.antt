@@ -1,16 +1,16 @@
 -- The spare octets: zeros that are written, read over, and asked for.
-use Prim.Native.Nat.{ℕ, zero, suc, ◌+◌, ◌≤◌, ◌<◌}
+use Prim.Native.Nat.{ℕ, zero, suc, ◌+◌}
 use mathlib.Core.Path.{◌≡◌, refl, sym, ap, ap₂, ◌∙◌}
-use mathlib.Core.Bool.{Bool, true, false, not, ◌&&◌, and-eq-true_iff}
-use mathlib.Core.List.{List, [], ◌∷◌, ◌++◌, append_assoc, append-nil}
+use mathlib.Core.Bool.{Bool, true, not, ◌&&◌, and-eq-true_iff}
+use mathlib.Core.List.{List, [], ◌∷◌, ◌++◌}
 use native.Mathlib.Omega.{arith}
-use native.Mathlib.Numerals.{add-one}
 use lib.Dec.{eqb}
-use lib.ListN.{length, get_or, take, drop, set, replicate, length-append, length-replicate, length-drop, drop_of_length-le, take-append-drop, replicate-append-replicate}
-use lib.Seq.{drop-cons, take_all, drop_at, set_at, append_snoc, length-take-le}
-use borrow.Author.Tests.{eqb-true, eq-eqb, ne_eqb, not-false}
-use Rattle.space_packet.specs.Answer.{Numbers, gives, refuses, refusal}
-use Rattle.space_packet.proofs.Answers.{refuse-no, refuse-yes, refuse-gives, holds-if, held}
+use lib.ListN.{length, take, drop, replicate, length-replicate, length-drop}
+use lib.Seq.{take_all, drop_at}
+use borrow.Author.Tests.{eqb-true, not-false}
+use Rattle.std.specs.List.{list_all}
+use Rattle.space_packet.specs.Answer.{Numbers, gives, refuses}
+use Rattle.space_packet.proofs.Answers.{refuse-no, refuse-gives, holds-if, held}
 use Rattle.ecss.specs.Kind.{NotFour}
 use Rattle.tc_header.specs.Form.{spare_at, spare_of, all_zero, spare_rule}
 use Rattle.tc_header.specs.declared.TcForm.{TcForm}
@@ -28,51 +28,17 @@ zero-zeros [] h = refl
 zero-zeros (x ∷ l) h =
     let p = (and-eq-true_iff (eqb x 0) (all_zero l)).0 h in ap₂ ◌∷◌ (sym (eqb-true x 0 p.0)) (zero-zeros l p.1)
 
--- a turn of the walk over them
-zero_turn : (l : List ℕ) (i : ℕ) → i < length l → all_zero (drop i l) ≡ eqb (get_or l i 0) 0 && all_zero (drop (i + 1) l)
+-- the test that every octet passes
+pub every-zero : (l : List ℕ) → list_all (λ (o : ℕ). eqb o 0) l ≡ all_zero l
 unfolding all_zero
-zero_turn l i h = rw (add-one i) (ap all_zero (drop-cons l i 0 h))
-
-pub zero-step : (l : List ℕ) (i : ℕ) → i < length l → get_or l i 0 ≡ 0 → all_zero (drop (i + 1) l) ≡ all_zero (drop i l)
-zero-step l i h e = sym (zero_turn l i h ∙ ap (λ (b : Bool). b && all_zero (drop (i + 1) l)) (eq-eqb _ 0 e))
-
-pub zero-stop : (l : List ℕ) (i : ℕ) → i < length l → (get_or l i 0 ≡ 0 → ⊥) → false ≡ all_zero (drop i l)
-zero-stop l i h e = sym (zero_turn l i h ∙ ap (λ (b : Bool). b && all_zero (drop (i + 1) l)) (ne_eqb _ 0 e))
-
-pub zero-end : (l : List ℕ) (i : ℕ) → length l ≤ i → true ≡ all_zero (drop i l)
-unfolding all_zero
-zero-end l i h = sym (ap all_zero (drop_of_length-le l h))
-
--- ---- stored behind `at` octets of m, one after the other
-
-module _ (at : ℕ) (m : List ℕ) where
-  abbrev pub zeroed : ℕ → List ℕ
-  zeroed i = take at m ++ replicate i 0 ++ drop (at + i) m
-
-  pub zero-none : m ≡ zeroed 0
-  zero-none = sym (ap₂ (λ (y : List ℕ) (k : ℕ). y ++ drop k m) (append-nil (take at m)) (let e : at + 0 ≡ at = omega arith in e) ∙ take-append-drop at m)
-
-  pub zero-put : (i : ℕ) → at + i < length m → set (zeroed i) (at + i) 0 ≡ zeroed (i + 1)
-  zero-put i h =
-      let front = take at m ++ replicate i 0 in
-      let l = length-append (take at m) (replicate i 0) in
-      let a = length-take-le at m (omega arith) in
-      let z = length-replicate {A = ℕ} i 0 in
-      let n : length front ≡ at + i = omega arith in
-      let e : suc (at + i) ≡ at + (i + 1) = omega arith in
-      ap (λ (y : List ℕ). set (front ++ y) (at + i) 0) (drop-cons m (at + i) 0 h)
-      ∙ set_at front (get_or m (at + i) 0) (drop (suc (at + i)) m) 0 (at + i) n
-      ∙ sym (append_snoc front 0 (drop (suc (at + i)) m))
-      ∙ ap₂ (λ (y : List ℕ) (k : ℕ). y ++ drop k m) (append_assoc (take at m) (replicate i 0) (replicate 1 0) ∙ ap (λ (y : List ℕ). take at m ++ y) (replicate-append-replicate i 1 0)) e
+every-zero [] = refl
+every-zero (x ∷ l) = ap (λ (b : Bool). eqb x 0 && b) (every-zero l)
 
 -- ---- the spare octets of a form
 
 module _ (f : TcForm) where
   pub spares-zero : (l : List ℕ) → all_zero (spare_of f l) ≡ true → gives tt ≡ spare_rule f l
   spares-zero l e = sym (refuse-no _ _ _ (ap not e))
-
-  pub spare-stands : (l : List ℕ) → all_zero (spare_of f l) ≡ false → refuses (refusal 20 []) ≡ spare_rule f l
-  spare-stands l e = sym (refuse-yes _ _ _ (ap not e))
 
   -- what is written behind the octets t passes
   pub spares-pass : (t : List ℕ) → length t ≡ spare_at f → spare_rule f (t ++ replicate f.spare_len 0) ≡ gives tt

@@ -2,7 +2,7 @@
 -- the data field header of telecommand packets.
 use Rattle.std.specs.Prelude.{ℕ, ◌+◌, ◌*◌, ◌/◌, ◌%◌, ◌≤◌, ◌≡◌, Bool, ◌&&◌, List, [], ◌∷◌, ◌++◌, length, get_or, replicate, eqb, ltb}
 use Rattle.space_packet.specs.Bits.{bits, flag_number}
-use Rattle.space_packet.specs.Answer.{Answer, Passed, refusal, gives, refuses, refuse_if, ◌then◌, in_range, numbers_of, in_buffer}
+use Rattle.space_packet.specs.Answer.{Answer, Passed, refusal, gives, refuse_if, ◌then◌, in_range, in_buffer}
 use Rattle.space_packet.specs.declared.PacketType.TheVariants.{Tc}
 use Rattle.ecss.specs.Version.{version_number, version_is, message_at}
 use Rattle.ecss.specs.Kind.{Kind}
@@ -10,12 +10,8 @@ use Rattle.ecss.specs.declared.MessageTypeId.{MessageTypeId}
 use Rattle.ecss.specs.declared.PusVersion.{PusVersion}
 use Rattle.tc_header.specs.Form.{form_c, form_check, source_len, source_octets, source_at, SourceFits, source_check, spare_at, spare_rule}
 use Rattle.tc_header.specs.declared.AckFlags.{AckFlags}
-use Rattle.tc_header.specs.declared.AckFlagsResult.{AckFlagsResult}
-use Rattle.tc_header.specs.declared.AckFlagsResult.TheVariants as A
 use Rattle.tc_header.specs.declared.PusTcSecondaryHeader.{PusTcSecondaryHeader}
 use Rattle.tc_header.specs.declared.TcForm.{TcForm}
-use Rattle.tc_header.specs.declared.SecHeaderResult.{SecHeaderResult}
-use Rattle.tc_header.specs.declared.SecHeaderResult.TheVariants as S
 
 -- ---- the acknowledgement flags: acceptance 8, start 4, progress 2, completion 1, in the order of the Rust crate
 
@@ -25,10 +21,6 @@ ack_check a = in_range 4 15 a.0
 
 abbrev pub ack_of : ℕ → AckFlags
 ack_of n = record { 0 = n }
-
-abbrev pub ack_answer : AckFlagsResult → Answer AckFlags
-ack_answer (A.Ok a) = gives a
-ack_answer (A.Err e) = refuses (numbers_of e)
 
 -- the flags with the bit of a weight set or cleared, the others as they were
 abbrev pub with_flag : ℕ → AckFlags → Bool → AckFlags
@@ -136,10 +128,6 @@ sec_read_in f s =
 
 abbrev pub sec_read : List ℕ → Answer PusTcSecondaryHeader
 sec_read = sec_read_in form_c
-
-abbrev pub sec_answer : SecHeaderResult → Answer PusTcSecondaryHeader
-sec_answer (S.Ok x) = gives x
-sec_answer (S.Err e) = refuses (numbers_of e)
 
 -- every field is the same; that the headers then are equal, and only then, is the theorem `same-sec`
 unfoldable pub same_sec : PusTcSecondaryHeader → PusTcSecondaryHeader → Bool

@@ -1,23 +1,21 @@
 // The secondary header of a telecommand after ECSS-E-ST-70-41C and, for PUS A, ECSS-E-70-41A; its form, and its acknowledgement
 // flags. The calls named after the Rust have PUS C with no spare octets; their siblings, which end in `_in`, take a form.
-#![tactic(auto)]
+#![tactic(auto, unfolding(space_packet::specs::Answer::and_then, space_packet::specs::Answer::set_if, space_packet::specs::Answer::refuse_if))]
 
 ghost use Rattle.std.specs.Prelude.{◌≡◌, [], ◌++◌, true, ◌+◌, ◌*◌, ◌/◌, ◌%◌, ◌<◌, ◌≤◌, length, get_or, take, drop, replicate};
 ghost use Rattle.space_packet.specs.Bits.{lowest};
-ghost use Rattle.space_packet.specs.Answer.{refusal, gives, refuses, ◌then◌, in_range, check_answer};
+ghost use Rattle.space_packet.specs.Answer.{refusal, gives, refuses, ◌then◌, in_range, answer_of};
 ghost use Rattle.space_packet.specs.Part.{beyond};
 ghost use Rattle.space_packet.specs.Wrote.{Wrote};
 ghost use Rattle.space_packet.specs.declared.PacketType.TheVariants.{Tc};
 ghost use Rattle.ecss.specs.Kind.{start_of, secondary_of, secondary_at, pus_rule, strict_rule};
 ghost use Rattle.ecss.specs.Version.{version_number};
 ghost use Rattle.ecss.specs.declared.PusVersion.TheVariants.{PusC};
-ghost use Rattle.tc_header.specs.Form.{form_spare, form_c, form_a, is_width, form_check, source_len, source_octets, source_at, source_check, same_form, spare_at, spare_of, all_zero, spare_rule};
-ghost use Rattle.tc_header.specs.Header.{ack_check, ack_of, ack_answer, with_flag, first_octets, tc_octets, sec_octets, sec_from, version_in, version_check, fields_check, widths_check, sec_made, sec_checks, sec_write_in, sec_write, sec_read_in, sec_read, sec_answer, same_sec, tc, pus_c};
+ghost use Rattle.tc_header.specs.Form.{form_spare, form_c, form_a, is_width, form_check, source_len, source_octets, source_at, source_check, spare_at, spare_of, all_zero, spare_rule};
+ghost use Rattle.tc_header.specs.Header.{ack_check, ack_of, with_flag, first_octets, tc_octets, sec_octets, sec_from, version_in, version_check, fields_check, widths_check, sec_made, sec_checks, sec_write_in, sec_write, sec_read_in, sec_read, tc, pus_c};
 
 use ecss::{MessageTypeId, PusError, PusVersion, frame};
-use space_packet::{
-    ByteConversionError, CCSDS_HEADER_LEN, CheckResult, PacketType, SizeResult, SpHeader,
-};
+use space_packet::{ByteConversionError, CCSDS_HEADER_LEN, PacketType, SpHeader};
 
 // Length of the secondary header of PUS C with no spare octets.
 pub const PUC_TC_SECONDARY_HEADER_LEN: usize = 5;
@@ -40,7 +38,7 @@ fn min_len() -> usize
 // ---- the form
 
 // The edition of a telecommand, and with it the width of its source ID in bits and how many spare octets end its secondary header.
-#[derive(Clone, Copy)]
+#[derive(Clone, Copy, PartialEq, Eq)]
 pub struct TcForm {
     version: PusVersion,
     source_width: u8,
@@ -61,6 +59,7 @@ impl TcForm {
     };
 
     // These hold the three to the forms that are taken, and are there for their contracts.
+    #[tactic(auto, unfolding(space_packet::specs::Answer::refuse_if, crate::specs::Form::form_check))]
     fn max_spare_len() -> usize
         ensures { (form_check (form_spare result) ≡ gives tt) × (form_check (form_spare (result + 1)) ≡ refuses (refusal 19 [])) }
     {
@@ -120,16 +119,17 @@ impl TcForm {
     }
 
     // 32 for another width than 0, 8 and 16; 19 for more than four spare octets.
-    pub fn check(self) -> CheckResult
-        ensures { check_answer result ≡ form_check self }
+    #[tactic(auto, unfolding(space_packet::specs::Answer::refuse_if, crate::specs::Form::form_check))]
+    pub fn check(self) -> Result<(), PusError>
+        ensures { answer_of result ≡ form_check self }
     {
         if !is_width(self.source_width) {
-            return CheckResult::Err(PusError::SourceWidth);
+            return Err(PusError::SourceWidth);
         }
         if TcForm::MAX_SPARE_LEN < self.spare_len as usize {
-            return CheckResult::Err(PusError::SpareLength);
+            return Err(PusError::SpareLength);
         }
-        CheckResult::Ok
+        Ok(())
     }
 
     // Where the spare octets begin in the secondary header: behind three octets and the source ID.
@@ -161,31 +161,22 @@ impl TcForm {
         frame::sec_header_part(packet, self.sec_header_len())
     }
 
-    // Whether the edition, the width and the spare length are the same.
-    pub fn eq(self, other: TcForm) -> bool
-        ensures { result ≡ same_form self other }
-    {
-        let v = self.version;
-        let w = other.version;
-        (v.raw_value() == w.raw_value())
-            & ((self.source_width == other.source_width) & (self.spare_len == other.spare_len))
-    }
-
     // What a setter and a write ask of a source ID: 7 where it is over its width.
-    pub fn check_source_id(self, source_id: u16) -> CheckResult
-        ensures { check_answer result ≡ source_check (source_len self) source_id }
+    pub fn check_source_id(self, source_id: u16) -> Result<(), PusError>
+        ensures { answer_of result ≡ source_check (source_len self) source_id }
     {
-        let n = self.source_width / 8;
-        if 1 < n {
-            return CheckResult::Ok;
-        }
-        if n as u16 * 255 < source_id {
-            return CheckResult::Err(PusError::FieldRange {
+        let largest = match self.source_width / 8 {
+            0 => 0,
+            1 => 255,
+            _ => u16::MAX,
+        };
+        if largest < source_id {
+            return Err(PusError::FieldRange {
                 place: 5,
                 value: source_id,
             });
         }
-        CheckResult::Ok
+        Ok(())
     }
 
     // The source ID that stands at octet 3; 0 where it has no octet.
@@ -193,14 +184,11 @@ impl TcForm {
         requires { 3 + source_len self ≤ length s.now }
         ensures { result ≡ source_at (source_len self) s.now }
     {
-        let n = self.source_width / 8;
-        if 1 < n {
-            return space_packet::word_at(s, 3);
+        match self.source_width / 8 {
+            0 => 0,
+            1 => s[3] as u16,
+            _ => space_packet::word_at(s, 3),
         }
-        if n == 1 {
-            return s[3] as u16;
-        }
-        0
     }
 
     // Writes the source ID behind three octets.
@@ -208,14 +196,10 @@ impl TcForm {
         requires { (source_len self ≤ 2) × (3 + source_len self ≤ length buf.old) }
         ensures { buf.new ≡ take 3 buf.old ++ source_octets (source_len self) source_id ++ drop (3 + source_len self) buf.old }
     {
-        let n = self.source_width / 8;
-        if 1 < n {
-            buf[3] = (source_id / 256) as u8;
-            buf[4] = (source_id % 256) as u8;
-            return;
-        }
-        if n == 1 {
-            buf[3] = (source_id % 256) as u8;
+        match self.source_width / 8 {
+            0 => {}
+            1 => buf[3] = (source_id % 256) as u8,
+            _ => buf[3..5].copy_from_slice(&source_id.to_be_bytes()),
         }
     }
 
@@ -224,13 +208,7 @@ impl TcForm {
         requires { (tc self).size ≤ length buf.old }
         ensures { buf.new ≡ take (spare_at self) buf.old ++ replicate self.spare_len 0 ++ drop (tc self).size buf.old }
     {
-        let at = self.spare_at();
-        let n = self.spare_len as usize;
-        let mut i: usize = 0;
-        while i < n {
-            buf[at + i] = 0;
-            i += 1;
-        }
+        buf[self.spare_at()..self.sec_header_len()].fill(0);
     }
 
     // The spare octets of a secondary header.
@@ -241,33 +219,27 @@ impl TcForm {
     }
 
     // What the strict checks ask of them: 20 where one is not zero.
-    fn check_spare(self, second: &[u8]) -> CheckResult
-        ensures { check_answer result ≡ spare_rule self second.now }
+    fn check_spare(self, second: &[u8]) -> Result<(), PusError>
+        ensures { answer_of result ≡ spare_rule self second.now }
     {
         if !all_zero(self.spare_part(second)) {
-            return CheckResult::Err(PusError::SpareNotZero);
+            return Err(PusError::SpareNotZero);
         }
-        CheckResult::Ok
+        Ok(())
     }
 }
 
 fn is_width(w: u8) -> bool
     ensures { result ≡ is_width w }
 {
-    (w == 16) | ((w == 8) | (w == 0))
+    matches!(w, 0 | 8 | 16)
 }
 
+#[tactic(auto, unfolding(crate::specs::Form::all_zero))]
 fn all_zero(s: &[u8]) -> bool
     ensures { result ≡ all_zero s.now }
 {
-    let mut i: usize = 0;
-    while i < s.len() {
-        if s[i] != 0 {
-            return false;
-        }
-        i += 1;
-    }
-    true
+    s.iter().all(|octet| *octet == 0)
 }
 
 // ---- the acknowledgement flags
@@ -277,7 +249,7 @@ fn all_zero(s: &[u8]) -> bool
 // four bits as they are handed in, and not their names. So for PUS A set them by their value, or take `acceptance` here for completion
 // there and `start` for progress. All four, none, and the builder's acceptance with completion are the same bits in either order, and
 // no other code of this library goes by the names of a PUS A command.
-#[derive(Clone, Copy)]
+#[derive(Clone, Copy, PartialEq, Eq)]
 pub struct AckFlags(u8);
 
 pub const ACK_ALL: AckFlags = AckFlags(15);
@@ -289,10 +261,13 @@ fn ack_all() -> AckFlags
     ACK_ALL
 }
 
-#[derive(Clone, Copy)]
-pub enum AckFlagsResult {
-    Ok(AckFlags),
-    Err(PusError),
+impl Default for AckFlags {
+    ghost is_default = { λ a. a ≡ ack_of 0 };
+
+    // No flag is set.
+    fn default() -> AckFlags {
+        AckFlags(0)
+    }
 }
 
 impl AckFlags {
@@ -305,23 +280,13 @@ impl AckFlags {
         AckFlags::ALL
     }
 
-    // No flag is set.
-    pub fn default() -> AckFlags
-        ensures { result ≡ ack_of 0 }
-    {
-        AckFlags(0)
-    }
-
     // 7 where the value is over four bits.
-    pub fn new_with_raw_value(value: u8) -> AckFlagsResult
-        ensures { ack_answer result ≡ (in_range 4 15 value then λ _. gives (ack_of value)) }
+    pub fn new_with_raw_value(value: u8) -> Result<AckFlags, PusError>
+        ensures { answer_of result ≡ (in_range 4 15 value then λ _. gives (ack_of value)) }
     {
         let flags = AckFlags(value);
-        let c = flags.check();
-        if let CheckResult::Err(e) = c {
-            return AckFlagsResult::Err(e);
-        }
-        AckFlagsResult::Ok(flags)
+        flags.check()?;
+        Ok(flags)
     }
 
     pub fn raw_value(self) -> u8
@@ -331,16 +296,16 @@ impl AckFlags {
     }
 
     // What a setter and a write ask of flags that are handed in.
-    pub fn check(self) -> CheckResult
-        ensures { check_answer result ≡ ack_check self }
+    pub fn check(self) -> Result<(), PusError>
+        ensures { answer_of result ≡ ack_check self }
     {
         if 15 < self.0 {
-            return CheckResult::Err(PusError::FieldRange {
+            return Err(PusError::FieldRange {
                 place: 4,
                 value: self.0 as u16,
             });
         }
-        CheckResult::Ok
+        Ok(())
     }
 
     pub fn acceptance(self) -> bool
@@ -403,18 +368,12 @@ impl AckFlags {
 
 // ---- the secondary header
 
-#[derive(Clone, Copy)]
+#[derive(Clone, Copy, PartialEq, Eq)]
 pub struct PusTcSecondaryHeader {
     pub message_type_id: MessageTypeId,
     pub source_id: u16,
     pub ack_flags: AckFlags,
     pub version: PusVersion,
-}
-
-#[derive(Clone, Copy)]
-pub enum SecHeaderResult {
-    Ok(PusTcSecondaryHeader),
-    Err(PusError),
 }
 
 impl PusTcSecondaryHeader {
@@ -455,26 +414,25 @@ impl PusTcSecondaryHeader {
         message_type_id: MessageTypeId,
         ack_flags: AckFlags,
         source_id: u16,
-    ) -> SecHeaderResult
-        ensures { sec_answer result ≡ sec_made form (sec_from message_type_id ack_flags source_id form.version) }
+    ) -> Result<PusTcSecondaryHeader, PusError>
+        ensures { answer_of result ≡ sec_made form (sec_from message_type_id ack_flags source_id form.version) }
     {
-        let version = form.version;
         let made = PusTcSecondaryHeader {
             message_type_id,
             source_id,
             ack_flags,
-            version,
+            version: form.version(),
         };
-        let c = made.check_widths(form);
-        if let CheckResult::Err(e) = c {
-            return SecHeaderResult::Err(e);
-        }
-        SecHeaderResult::Ok(made)
+        made.check_widths(form)?;
+        Ok(made)
     }
 
     // All four acknowledgements, and source 0; 32, 19.
-    pub fn new_simple_in(form: TcForm, message_type_id: MessageTypeId) -> SecHeaderResult
-        ensures { sec_answer result ≡ sec_made form (sec_from message_type_id (ack_of 15) 0 form.version) }
+    pub fn new_simple_in(
+        form: TcForm,
+        message_type_id: MessageTypeId,
+    ) -> Result<PusTcSecondaryHeader, PusError>
+        ensures { answer_of result ≡ sec_made form (sec_from message_type_id (ack_of 15) 0 form.version) }
     {
         PusTcSecondaryHeader::new_in(form, message_type_id, AckFlags::ALL, 0)
     }
@@ -516,131 +474,97 @@ impl PusTcSecondaryHeader {
     }
 
     // What a write asks of the version: 3 for another than C.
-    pub fn check_version(self) -> CheckResult
-        ensures { check_answer result ≡ version_check self.version }
+    pub fn check_version(self) -> Result<(), PusError>
+        ensures { answer_of result ≡ version_check self.version }
     {
         self.check_version_in(TcForm::PUS_C)
     }
 
     // 3 for another version than the form's.
-    pub fn check_version_in(self, form: TcForm) -> CheckResult
-        ensures { check_answer result ≡ version_in form self.version }
+    pub fn check_version_in(self, form: TcForm) -> Result<(), PusError>
+        ensures { answer_of result ≡ version_in form self.version }
     {
-        let version = self.version;
-        let own = form.version;
-        version.check(own)
+        self.version.check(form.version)
     }
 
     // What a setter and a write ask of its fields: 7 where one is over its width.
-    pub fn check_fields_in(self, form: TcForm) -> CheckResult
-        ensures { check_answer result ≡ fields_check form self }
+    pub fn check_fields_in(self, form: TcForm) -> Result<(), PusError>
+        ensures { answer_of result ≡ fields_check form self }
     {
-        let ack = self.ack_flags;
-        let c = ack.check();
-        let CheckResult::Ok = c else {
-            return c;
-        };
+        self.ack_flags.check()?;
         form.check_source_id(self.source_id)
     }
 
     // The form, then the fields; 32, 19, 7.
-    fn check_widths(self, form: TcForm) -> CheckResult
-        ensures { check_answer result ≡ widths_check form self }
+    fn check_widths(self, form: TcForm) -> Result<(), PusError>
+        ensures { answer_of result ≡ widths_check form self }
     {
-        let c = form.check();
-        let CheckResult::Ok = c else {
-            return c;
-        };
+        form.check()?;
         self.check_fields_in(form)
     }
 
-    // Whether every field is the same.
-    pub fn eq(self, other: PusTcSecondaryHeader) -> bool
-        ensures { result ≡ same_sec self other }
-    {
-        let v = self.version;
-        let w = other.version;
-        let m = self.message_type_id;
-        let n = other.message_type_id;
-        (m.type_id == n.type_id)
-            & ((m.subtype_id == n.subtype_id)
-                & ((self.source_id == other.source_id)
-                    & ((self.ack_flags.0 == other.ack_flags.0) & (v.raw_value() == w.raw_value()))))
-    }
-
     // The header that five octets are; 2 where there are fewer. The version is always C.
-    pub fn from_be_bytes(s: &[u8]) -> SecHeaderResult
-        ensures { sec_answer result ≡ sec_read s.now }
+    pub fn from_be_bytes(s: &[u8]) -> Result<PusTcSecondaryHeader, PusError>
+        ensures { answer_of result ≡ sec_read s.now }
     {
         PusTcSecondaryHeader::from_be_bytes_in(TcForm::PUS_C, s)
     }
 
     // The header that as many octets are as the form has; 32, 19, 2. The version is always the form's.
-    pub fn from_be_bytes_in(form: TcForm, s: &[u8]) -> SecHeaderResult
-        ensures { sec_answer result ≡ sec_read_in form s.now }
+    #[tactic(auto, unfolding(space_packet::specs::Answer::and_then, space_packet::specs::Answer::refuse_if, crate::specs::Header::sec_read_in, crate::specs::Header::tc_of))]
+    pub fn from_be_bytes_in(form: TcForm, s: &[u8]) -> Result<PusTcSecondaryHeader, PusError>
+        ensures { answer_of result ≡ sec_read_in form s.now }
     {
-        let c = form.check();
-        if let CheckResult::Err(e) = c {
-            return SecHeaderResult::Err(e);
-        }
+        form.check()?;
         let expected = form.sec_header_len();
         if s.len() < expected {
-            return SecHeaderResult::Err(PusError::ByteConversion(
-                ByteConversionError::FromSliceTooSmall {
-                    found: s.len(),
-                    expected,
-                },
-            ));
+            return Err(PusError::ByteConversion(ByteConversionError::FromSliceTooSmall {
+                found: s.len(),
+                expected,
+            }));
         }
-        let ack = s[0] % 16;
-        let reported = form.version;
-        SecHeaderResult::Ok(PusTcSecondaryHeader {
+        Ok(PusTcSecondaryHeader {
             message_type_id: MessageTypeId::new(s[1], s[2]),
             source_id: form.source_at(s),
-            ack_flags: AckFlags(ack),
-            version: reported,
+            ack_flags: AckFlags(s[0] % 16),
+            version: form.version,
         })
     }
 
     // What a write into that many octets asks; 32, 19, 7, 1, 3.
-    fn check(self, form: TcForm, room: usize) -> CheckResult
-        ensures { check_answer result ≡ sec_checks form self room }
+    #[tactic(auto, unfolding(space_packet::specs::Answer::and_then, space_packet::specs::Answer::refuse_if, crate::specs::Header::sec_checks))]
+    fn check(self, form: TcForm, room: usize) -> Result<(), PusError>
+        ensures { answer_of result ≡ sec_checks form self room }
     {
-        let c = self.check_widths(form);
-        let CheckResult::Ok = c else {
-            return c;
-        };
+        self.check_widths(form)?;
         let expected = form.sec_header_len();
         if room < expected {
-            return CheckResult::Err(PusError::ByteConversion(
-                ByteConversionError::ToSliceTooSmall {
-                    found: room,
-                    expected,
-                },
-            ));
+            return Err(PusError::ByteConversion(ByteConversionError::ToSliceTooSmall {
+                found: room,
+                expected,
+            }));
         }
         self.check_version_in(form)
     }
 
     // Writes the five octets; 7, 1, 3.
-    pub fn write_to_slice(self, buf: &mut [u8]) -> SizeResult
+    pub fn write_to_slice(self, buf: &mut [u8]) -> Result<usize, PusError>
         ensures { Wrote (sec_write self (length buf.old)) (sec_octets self) buf.old result buf.new }
     {
         self.write_to_slice_in(TcForm::PUS_C, buf)
     }
 
     // Writes as many octets as the form has; 32, 19, 7, 1, 3.
-    pub fn write_to_slice_in(self, form: TcForm, buf: &mut [u8]) -> SizeResult
+    #[tactic(auto, unfolding(space_packet::specs::Answer::and_then, crate::specs::Header::sec_write_in))]
+    pub fn write_to_slice_in(self, form: TcForm, buf: &mut [u8]) -> Result<usize, PusError>
         ensures { Wrote (sec_write_in form self (length buf.old)) (tc_octets form self) buf.old result buf.new }
     {
-        let c = self.check(form, buf.len());
-        if let CheckResult::Err(e) = c {
-            return SizeResult::Err(e);
-        }
+        self.check(form, buf.len())?;
         self.put(form, buf);
-        SizeResult::Ok(form.sec_header_len())
+        Ok(form.sec_header_len())
     }
 
+    #[tactic(auto, unfolding(crate::specs::Header::tc_octets))]
     fn put(self, form: TcForm, buf: &mut [u8])
         requires { (self.ack_flags.0 ≤ 15) × ((source_len form ≤ 2) × ((tc form).size ≤ length buf.old)) }
         ensures { buf.new ≡ tc_octets form self ++ drop (tc form).size buf.old }
@@ -655,41 +579,29 @@ impl PusTcSecondaryHeader {
         requires { (self.ack_flags.0 ≤ 15) × (3 ≤ length buf.old) }
         ensures { buf.new ≡ first_octets self ++ drop 3 buf.old }
     {
-        let version = self.version;
-        buf[0] = version.raw_value() * 16 + self.ack_flags.0;
+        buf[0] = self.version.raw_value() * 16 + self.ack_flags.0;
         buf[1] = self.message_type_id.type_id;
         buf[2] = self.message_type_id.subtype_id;
     }
 }
 
 // The strict checks of a telecommand, on its primary header and its secondary header's octets; 9, 10, 11, 3, 12, 20.
-pub fn strict_rule(form: TcForm, h: SpHeader, second: &[u8]) -> CheckResult
-    ensures { check_answer result ≡ strict_rule (tc form) h second.now }
+#[tactic(auto, unfolding(space_packet::specs::Answer::and_then, ecss::specs::Kind::strict_rule))]
+pub fn strict_rule(form: TcForm, h: SpHeader, second: &[u8]) -> Result<(), PusError>
+    ensures { answer_of result ≡ strict_rule (tc form) h second.now }
 {
-    let shared = shared_rule(form, h, second);
-    let spare = form.check_spare(second);
-    first_refusal(shared, spare)
-}
-
-// What the first of two checks is refused with, or else the second.
-fn first_refusal(first: CheckResult, second: CheckResult) -> CheckResult
-    ensures { check_answer result ≡ (check_answer first then λ _. check_answer second) }
-{
-    match first {
-        CheckResult::Err(_) => first,
-        CheckResult::Ok => second,
-    }
+    shared_rule(form, h, second)?;
+    form.check_spare(second)
 }
 
 // Those that every kind shares.
-fn shared_rule(form: TcForm, h: SpHeader, second: &[u8]) -> CheckResult
-    ensures { check_answer result ≡ pus_rule Tc (refusal 10 []) (version_number form.version) h (get_or second.now 0 0) }
+fn shared_rule(form: TcForm, h: SpHeader, second: &[u8]) -> Result<(), PusError>
+    ensures { answer_of result ≡ pus_rule Tc (refusal 10 []) (version_number form.version) h (get_or second.now 0 0) }
 {
-    let edition = form.version;
     ecss::pus_rule(
         PacketType::Tc,
         PusError::PacketTypeTm,
-        edition.raw_value(),
+        form.version.raw_value(),
         h,
         space_packet::octet_at(second, 0),
     )

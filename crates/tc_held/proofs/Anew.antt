@@ -6,6 +6,7 @@ use mathlib.Core.List.{List, [], ◌∷◌}
 use native.Mathlib.Omega.{arith}
 use lib.ListN.{length, take, drop}
 use lib.Seq.{length-take-le, get_or-take, take-take, take-add, drop_at}
+use Rattle.std.specs.Prelude.{Some}
 use Rattle.space_packet.specs.Bits.{word}
 use Rattle.space_packet.specs.Answer.{Numbers, Answer, refusal, gives, refuses}
 use Rattle.space_packet.specs.Header.{read_header}
@@ -18,7 +19,6 @@ use Rattle.tc_write.specs.declared.PusTcCreator.{PusTcCreator}
 use Rattle.tc_read.specs.Read.{start_c, record_in, frame_in, read_in, read_of, app_data_of, raw_data_of}
 use Rattle.tc_read.proofs.Records.{frame-c}
 use Rattle.tc_compare.specs.Compare.{reports_creator, equals_creator, equals_reader}
-use Rattle.ecss.specs.declared.Crc16.TheVariants.{Some}
 use Rattle.tc_held.specs.Held.{Held, primary_in, secondary_in, held_of}
 
 -- ---- the first n octets

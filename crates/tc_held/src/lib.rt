@@ -3,14 +3,14 @@
 #![tactic(auto)]
 
 ghost use Rattle.std.specs.Prelude.{◌≡◌};
-ghost use Rattle.tc_read.specs.Read.{read_of, app_data_of};
+ghost use Rattle.tc_read.specs.Read.{app_data_of};
 ghost use Rattle.tc_compare.specs.Compare.{equals_creator, equals_reader};
-ghost use Rattle.tc_held.specs.Held.{primary_in, secondary_in, held_by, held_of};
+ghost use Rattle.tc_held.specs.Held.{held_by, held_of};
 
 use ecss::MessageTypeId;
 use space_packet::SpHeader;
 use tc_header::PusTcSecondaryHeader;
-use tc_read::{PusTcRecord, PusTcRecordResult};
+use tc_read::PusTcRecord;
 use tc_write::PusTcCreator;
 
 #[derive(Clone, Copy)]
@@ -21,55 +21,26 @@ pub struct PusTcReader<'a> {
     has_checksum: bool,
 }
 
-// The headers that a read reports; the defaults where it is refused.
-fn sp_header_in(slice: &[u8], has_checksum: bool) -> SpHeader
-    ensures { result ≡ primary_in (read_of slice.now has_checksum) }
-{
-    let read = PusTcRecord::new_no_checksum_verification(slice, has_checksum);
-    match read {
-        PusTcRecordResult::Err(_) => SpHeader::default(),
-        PusTcRecordResult::Ok(record) => record.sp_header,
-    }
-}
-
-fn sec_header_in(slice: &[u8], has_checksum: bool) -> PusTcSecondaryHeader
-    ensures { result ≡ secondary_in (read_of slice.now has_checksum) }
-{
-    let read = PusTcRecord::new_no_checksum_verification(slice, has_checksum);
-    match read {
-        PusTcRecordResult::Err(_) => PusTcSecondaryHeader::new_simple(MessageTypeId::new(0, 0)),
-        PusTcRecordResult::Ok(record) => record.sec_header,
-    }
-}
-
 impl<'a> PusTcReader<'a> {
-    fn of(
-        raw: &'a [u8],
-        sp_header: SpHeader,
-        sec_header: PusTcSecondaryHeader,
-        has_checksum: bool,
-    ) -> PusTcReader<'a>
-        ensures { (result.raw ≡ raw.entry) × (result.sp_header ≡ sp_header) × (result.sec_header ≡ sec_header) × (result.has_checksum ≡ has_checksum) }
-    {
-        PusTcReader {
-            raw,
-            sp_header,
-            sec_header,
-            has_checksum,
-        }
-    }
-
-    // Holds the packet that octets begin with. Where the read is refused it holds the empty part, and
+    // Holds the packet that octets begin with. Where the read is refused it holds the empty part and the default headers, and
     // PusTcRecord::new_no_checksum_verification gives the number.
     pub fn new_no_checksum_verification(slice: &'a [u8], has_checksum: bool) -> PusTcReader<'a>
         ensures { held_by result ≡ held_of slice.now has_checksum }
     {
-        PusTcReader::of(
-            tc_read::raw_data(slice, has_checksum),
-            sp_header_in(slice, has_checksum),
-            sec_header_in(slice, has_checksum),
+        let read = PusTcRecord::new_no_checksum_verification(slice, has_checksum);
+        let (sp_header, sec_header) = match read {
+            Ok(record) => (record.sp_header, record.sec_header),
+            Err(_) => (
+                SpHeader::default(),
+                PusTcSecondaryHeader::new_simple(MessageTypeId::new(0, 0)),
+            ),
+        };
+        PusTcReader {
+            raw: tc_read::raw_data(slice, has_checksum),
+            sp_header,
+            sec_header,
             has_checksum,
-        )
+        }
     }
 
     // The packet.
@@ -99,14 +70,14 @@ impl<'a> PusTcReader<'a> {
     }
 
     // Whether what is held is the creator's: both headers and the data.
-    pub fn eq_creator<'b>(self, creator: PusTcCreator, data: &'b [u8]) -> bool
+    pub fn eq_creator(self, creator: PusTcCreator, data: &[u8]) -> bool
         ensures { result ≡ equals_creator self.entry.raw.now self.entry.has_checksum creator «data».now }
     {
         tc_compare::eq_creator(self.raw, self.has_checksum, creator, data)
     }
 
     // Whether two readers hold the same packet: by their raw octets only.
-    pub fn eq_reader<'b>(self, other: PusTcReader<'b>) -> bool
+    pub fn eq_reader(self, other: PusTcReader<'_>) -> bool
         ensures { result ≡ equals_reader self.entry.raw.now self.entry.has_checksum other.entry.raw.now other.entry.has_checksum }
     {
         tc_compare::eq_reader(self.raw, self.has_checksum, other.raw, other.has_checksum)

@@ -6,20 +6,20 @@ use mathlib.Core.List.{List, []}
 use native.Mathlib.Omega.{arith}
 use lib.ListN.{length, take, drop}
 use borrow.Author.Tests.{le-ltb}
+use Rattle.std.specs.Prelude.{Option}
 use Rattle.space_packet.specs.Answer.{Answer, Numbers, gives, refuses}
 use Rattle.space_packet.specs.Header.{header_read, read_header}
 use Rattle.space_packet.specs.declared.SpacePacketHeader.{SpacePacketHeader}
 use Rattle.space_packet.proofs.Answers.{gives-inj, refuse-no, gives_then, then-refused}
 use Rattle.ecss.specs.Frame.{trailer, frame_of, checked_of, frame_after, checked_after, Framed, crc_taken, raw_part, data_part}
 use Rattle.ecss.specs.Kind.{secondary_of}
-use Rattle.ecss.proofs.After.{frame-checked, reported, primary-read, secondary-length}
+use Rattle.ecss.proofs.After.{frame-given, checked-given, frame-checked, reported, primary-read, secondary-length}
 use Rattle.tc_header.specs.Form.{form_c, form_check}
 use Rattle.tc_header.specs.Header.{sec_read_in, tc_of, tc}
 use Rattle.tc_header.specs.declared.TcForm.{TcForm}
 use Rattle.tc_header.proofs.Forms.{taken-c}
 use Rattle.tc_header.specs.declared.PusTcSecondaryHeader.{PusTcSecondaryHeader}
 use Rattle.tc_read.specs.Read.{start_in, start_c, record_in, frame_in, checked_frame, read_in, checked_in, app_data_in, raw_data_in}
-use Rattle.ecss.specs.declared.Crc16.{Crc16}
 use Rattle.tc_read.specs.declared.PusTcRecord.{PusTcRecord}
 
 -- PUS C, written out: its form is taken
@@ -46,7 +46,7 @@ both_read f s t b n w i =
     let l : start_in f ≤ length s = omega (arith, w.room, w.fits) in
     (primary-read s (omega (arith, l)), ap (sec_read_in f) i ∙ secondary-read f s l w.good)
 
-pub record-read : (f : TcForm) (s t : List ℕ) (b : Bool) (n : ℕ) (h : SpacePacketHeader) (x : PusTcSecondaryHeader) (a e : ℕ) (k : Crc16)
+pub record-read : (f : TcForm) (s t : List ℕ) (b : Bool) (n : ℕ) (h : SpacePacketHeader) (x : PusTcSecondaryHeader) (a e : ℕ) (k : Option ℕ)
     → Framed (form_check f) (start_in f) b s n
     → header_read s ≡ gives h → t ≡ secondary_of (tc f).size s → sec_read_in f t ≡ gives x → a ≡ start_in f → e ≡ n - trailer b → k ≡ crc_taken b s n
     → record { sp_header = h; sec_header = x; start = a; end = e; total = n; crc16 = k } ≡ record_in f s b n
@@ -56,6 +56,9 @@ record-read f s t b n h x a e k w p i q start end crc =
     let hs = gives-inj h (read_header s) (sym p ∙ r.0) in
     let xs = gives-inj x (tc_of f (secondary_of (tc f).size s)) (sym q ∙ r.1) in
     λ j. record { sp_header = hs j; sec_header = xs j; start = start j; end = end j; total = n; crc16 = crc j }
+
+-- what a total says of the octets
+pub ruleset framed = (frame-given, checked-given)
 
 -- ---- what was read, and the parts
 

@@ -1,6 +1,6 @@
 -- Telecommands read, over their form: what is reported of octets, and the parts handed out.
 use Rattle.std.specs.Prelude.{ℕ, ◌-◌, Bool, true, List}
-use Rattle.space_packet.specs.Answer.{Answer, gives, refuses, ◌then◌, numbers_of}
+use Rattle.space_packet.specs.Answer.{Answer, gives, ◌then◌}
 use Rattle.space_packet.specs.Header.{read_header}
 use Rattle.ecss.specs.Frame.{trailer, frame_after, checked_after, crc_taken, raw_part, data_part, data_at}
 use Rattle.ecss.specs.Kind.{secondary_of, start_of}
@@ -8,8 +8,6 @@ use Rattle.tc_header.specs.Form.{form_c, form_check}
 use Rattle.tc_header.specs.Header.{tc_of, tc}
 use Rattle.tc_header.specs.declared.TcForm.{TcForm}
 use Rattle.tc_read.specs.declared.PusTcRecord.{PusTcRecord}
-use Rattle.tc_read.specs.declared.PusTcRecordResult.{PusTcRecordResult}
-use Rattle.tc_read.specs.declared.PusTcRecordResult.TheVariants as R
 
 -- where the data starts, and of PUS C with no spare octets
 abbrev pub start_in : TcForm → ℕ
@@ -28,10 +26,6 @@ record_in f s b n = record {
   total = n;
   crc16 = crc_taken b s n;
 }
-
-abbrev pub record_answer : PusTcRecordResult → Answer PusTcRecord
-record_answer (R.Ok r) = gives r
-record_answer (R.Err e) = refuses (numbers_of e)
 
 -- the total of the packet that octets begin with, for the choice of checksum: 32, 19, 2; and where it is compared: 32, 19, 2, 4
 abbrev pub frame_in : TcForm → List ℕ → Bool → Answer ℕ

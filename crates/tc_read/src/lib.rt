@@ -3,26 +3,21 @@
 // `_in`, take a form.
 #![tactic(auto)]
 
-ghost use Rattle.std.specs.Prelude.{◌≡◌, false, eqb};
-ghost use Rattle.space_packet.specs.Fields.{type_number, id_raw, psc_raw};
+ghost use Rattle.space_packet.specs.Answer.{answer_of};
+ghost use Rattle.std.specs.Prelude.{◌≡◌, false, Ok};
 ghost use Rattle.space_packet.specs.Header.{packet_len};
 ghost use Rattle.space_packet.specs.Part.{beyond};
 ghost use Rattle.ecss.specs.Frame.{Framed, has_crc};
-ghost use Rattle.ecss.specs.Kind.{secondary_of, secondary_at};
 ghost use Rattle.tc_header.specs.Form.{form_c, form_check};
 ghost use Rattle.tc_header.specs.Header.{tc};
-ghost use Rattle.tc_read.specs.Read.{start_in, record_in, record_answer, read_in, read_of, checked_in, checked_read, app_data_in, app_data_of, app_data_at, raw_data_in, raw_data_of};
+ghost use Rattle.tc_read.specs.Read.{start_in, record_in, read_in, read_of, checked_in, checked_read, app_data_in, app_data_of, app_data_at, raw_data_in, raw_data_of};
 
-pub use ecss::Crc16;
-use ecss::{MessageTypeId, PusError, PusVersion, frame};
-use space_packet::{
-    Apid, PacketId, PacketSequenceControl, PacketType, SeqCount, SequenceFlags, SizeResult,
-    SpHeader, SpHeaderResult,
-};
-use tc_header::{AckFlags, PusTcSecondaryHeader, SecHeaderResult, TcForm};
+use ecss::{MessageTypeId, PusError, PusPacket, PusVersion, frame};
+use space_packet::{CcsdsPacket, SpHeader};
+use tc_header::{AckFlags, PusTcSecondaryHeader, TcForm};
 
 // What a reader reports.
-#[derive(Clone, Copy)]
+#[derive(Clone, Copy, PartialEq, Eq)]
 pub struct PusTcRecord {
     pub sp_header: SpHeader,
     pub sec_header: PusTcSecondaryHeader,
@@ -31,109 +26,86 @@ pub struct PusTcRecord {
     pub end: usize,
     // The octets of the whole packet.
     pub total: usize,
-    pub crc16: Crc16,
-}
-
-#[derive(Clone, Copy)]
-pub enum PusTcRecordResult {
-    Ok(PusTcRecord),
-    Err(PusError),
+    pub crc16: Option<u16>,
 }
 
 impl PusTcRecord {
     // The checksum is taken and compared: reads the packet that octets begin with; 2, 4.
-    pub fn new(slice: &[u8]) -> PusTcRecordResult
-        ensures { record_answer result ≡ checked_read slice.now }
+    pub fn new(slice: &[u8]) -> Result<PusTcRecord, PusError>
+        ensures { answer_of result ≡ checked_read slice.now }
     {
         PusTcRecord::new_in(TcForm::PUS_C, slice)
     }
 
-    pub fn new_in(form: TcForm, slice: &[u8]) -> PusTcRecordResult
-        ensures { record_answer result ≡ checked_in form slice.now }
+    #[tactic(auto, using(crate::proofs::Records::framed), unfolding(space_packet::specs::Answer::and_then, crate::specs::Read::checked_in))]
+    pub fn new_in(form: TcForm, slice: &[u8]) -> Result<PusTcRecord, PusError>
+        ensures { answer_of result ≡ checked_in form slice.now }
     {
-        let f = frame::checked_after(form.check(), slice, form.min_len_without_app_data());
-        match f {
-            SizeResult::Err(refusal) => PusTcRecordResult::Err(refusal),
-            SizeResult::Ok(total) => PusTcRecord::of(form, slice, total, true),
-        }
+        let start = form.min_len_without_app_data();
+        let total = frame::checked_after(form.check(), slice, start)?;
+        PusTcRecord::of(form, slice, total, true)
     }
 
-    pub fn new_checksum_no_table(slice: &[u8]) -> PusTcRecordResult
-        ensures { record_answer result ≡ checked_read slice.now }
+    pub fn new_checksum_no_table(slice: &[u8]) -> Result<PusTcRecord, PusError>
+        ensures { answer_of result ≡ checked_read slice.now }
     {
         PusTcRecord::new(slice)
     }
 
     // No checksum is expected; 2.
-    pub fn new_no_checksum(slice: &[u8]) -> PusTcRecordResult
-        ensures { record_answer result ≡ read_of slice.now false }
+    pub fn new_no_checksum(slice: &[u8]) -> Result<PusTcRecord, PusError>
+        ensures { answer_of result ≡ read_of slice.now false }
     {
         PusTcRecord::new_no_checksum_verification(slice, false)
     }
 
-    pub fn new_no_checksum_in(form: TcForm, slice: &[u8]) -> PusTcRecordResult
-        ensures { record_answer result ≡ read_in form slice.now false }
+    pub fn new_no_checksum_in(form: TcForm, slice: &[u8]) -> Result<PusTcRecord, PusError>
+        ensures { answer_of result ≡ read_in form slice.now false }
     {
         PusTcRecord::new_no_checksum_verification_in(form, slice, false)
     }
 
     // A checksum is taken where there is one, and not compared; 2.
-    pub fn new_no_checksum_verification(slice: &[u8], has_checksum: bool) -> PusTcRecordResult
-        ensures { record_answer result ≡ read_of slice.now has_checksum }
+    pub fn new_no_checksum_verification(
+        slice: &[u8],
+        has_checksum: bool,
+    ) -> Result<PusTcRecord, PusError>
+        ensures { answer_of result ≡ read_of slice.now has_checksum }
     {
         PusTcRecord::new_no_checksum_verification_in(TcForm::PUS_C, slice, has_checksum)
     }
 
+    #[tactic(auto, using(crate::proofs::Records::framed), unfolding(space_packet::specs::Answer::and_then, crate::specs::Read::read_in))]
     pub fn new_no_checksum_verification_in(
         form: TcForm,
         slice: &[u8],
         has_checksum: bool,
-    ) -> PusTcRecordResult
-        ensures { record_answer result ≡ read_in form slice.now has_checksum }
+    ) -> Result<PusTcRecord, PusError>
+        ensures { answer_of result ≡ read_in form slice.now has_checksum }
     {
-        let f = frame::frame_after(
-            form.check(),
-            slice,
-            form.min_len_without_app_data(),
-            has_checksum,
-        );
-        match f {
-            SizeResult::Err(e) => PusTcRecordResult::Err(e),
-            SizeResult::Ok(total) => PusTcRecord::of(form, slice, total, has_checksum),
-        }
+        let start = form.min_len_without_app_data();
+        let total = frame::frame_after(form.check(), slice, start, has_checksum)?;
+        PusTcRecord::of(form, slice, total, has_checksum)
     }
 
     // The record of a packet of `total` octets.
-    fn of(form: TcForm, slice: &[u8], total: usize, has_checksum: bool) -> PusTcRecordResult
+    fn of(
+        form: TcForm,
+        slice: &[u8],
+        total: usize,
+        has_checksum: bool,
+    ) -> Result<PusTcRecord, PusError>
         requires { Framed (form_check form) (start_in form) has_checksum slice.now total }
-        ensures { result ≡ PusTcRecordResult.Ok (record_in form slice.now has_checksum total) }
+        ensures { result ≡ Ok (record_in form slice.now has_checksum total) }
     {
-        let header = SpHeader::from_be_bytes(slice);
-        match header {
-            SpHeaderResult::Err(e) => PusTcRecordResult::Err(e),
-            SpHeaderResult::Ok(sp_header) => {
-                let second = PusTcSecondaryHeader::from_be_bytes_in(
-                    form,
-                    sec_header_part(form, slice),
-                );
-                match second {
-                    SecHeaderResult::Err(e) => PusTcRecordResult::Err(e),
-                    SecHeaderResult::Ok(sec_header) => {
-                        let end = total - frame::trailer_len(has_checksum);
-                        let crc16 = frame::crc_taken(slice, total, has_checksum);
-                        let start = form.min_len_without_app_data();
-                        PusTcRecordResult::Ok(PusTcRecord {
-                            sp_header,
-                            sec_header,
-                            start,
-                            end,
-                            total,
-                            crc16,
-                        })
-                    }
-                }
-            }
-        }
+        Ok(PusTcRecord {
+            sp_header: SpHeader::from_be_bytes(slice)?,
+            sec_header: PusTcSecondaryHeader::from_be_bytes_in(form, form.sec_header_part(slice))?,
+            start: form.min_len_without_app_data(),
+            end: total - frame::trailer_len(has_checksum),
+            total,
+            crc16: frame::crc_taken(slice, total, has_checksum),
+        })
     }
 
     // ---- reading
@@ -142,14 +114,7 @@ impl PusTcRecord {
     pub fn len_packed(self) -> usize
         ensures { result ≡ packet_len self.sp_header }
     {
-        let h = self.sp_header;
-        h.packet_len()
-    }
-
-    pub fn sp_header(self) -> SpHeader
-        ensures { result ≡ self.sp_header }
-    {
-        self.sp_header
+        self.sp_header.packet_len()
     }
 
     pub fn sec_header(self) -> PusTcSecondaryHeader
@@ -159,14 +124,14 @@ impl PusTcRecord {
     }
 
     // The checksum, where it was taken.
-    pub fn crc16(self) -> Crc16
+    pub fn crc16(self) -> Option<u16>
         ensures { result ≡ self.crc16 }
     {
         self.crc16
     }
 
-    // The name of the trait PusPacket.
-    pub fn checksum(self) -> Crc16
+    // The same, as the trait PusPacket of the Rust names it.
+    pub fn checksum(self) -> Option<u16>
         ensures { result ≡ self.crc16 }
     {
         self.crc16
@@ -175,163 +140,45 @@ impl PusTcRecord {
     pub fn has_checksum(self) -> bool
         ensures { result ≡ has_crc self.crc16 }
     {
-        let crc16 = self.crc16;
-        match crc16 {
-            Crc16::Some(_) => true,
-            Crc16::None => false,
-        }
-    }
-
-    pub fn ccsds_version(self) -> u8
-        ensures { result ≡ self.sp_header.version }
-    {
-        let h = self.sp_header;
-        h.version
-    }
-
-    pub fn packet_id(self) -> PacketId
-        ensures { result ≡ self.sp_header.packet_id }
-    {
-        let h = self.sp_header;
-        h.packet_id
-    }
-
-    pub fn psc(self) -> PacketSequenceControl
-        ensures { result ≡ self.sp_header.psc }
-    {
-        let h = self.sp_header;
-        h.psc
-    }
-
-    pub fn data_len(self) -> u16
-        ensures { result ≡ self.sp_header.data_len }
-    {
-        let h = self.sp_header;
-        h.data_len
-    }
-
-    pub fn packet_len(self) -> usize
-        ensures { result ≡ packet_len self.sp_header }
-    {
-        let h = self.sp_header;
-        h.packet_len()
-    }
-
-    pub fn packet_id_raw(self) -> u16
-        ensures { result ≡ id_raw self.sp_header.packet_id }
-    {
-        let h = self.sp_header;
-        h.packet_id_raw()
-    }
-
-    pub fn psc_raw(self) -> u16
-        ensures { result ≡ psc_raw self.sp_header.psc }
-    {
-        let h = self.sp_header;
-        h.psc_raw()
-    }
-
-    pub fn packet_type(self) -> PacketType
-        ensures { result ≡ self.sp_header.packet_id.packet_type }
-    {
-        let h = self.sp_header;
-        h.packet_type()
-    }
-
-    pub fn is_tm(self) -> bool
-        ensures { result ≡ eqb (type_number self.sp_header.packet_id.packet_type) 0 }
-    {
-        let h = self.sp_header;
-        h.is_tm()
-    }
-
-    pub fn is_tc(self) -> bool
-        ensures { result ≡ eqb (type_number self.sp_header.packet_id.packet_type) 1 }
-    {
-        let h = self.sp_header;
-        h.is_tc()
-    }
-
-    pub fn sec_header_flag(self) -> bool
-        ensures { result ≡ self.sp_header.packet_id.sec_header_flag }
-    {
-        let h = self.sp_header;
-        h.sec_header_flag()
-    }
-
-    pub fn seq_count(self) -> SeqCount
-        ensures { result ≡ self.sp_header.psc.seq_count }
-    {
-        let h = self.sp_header;
-        h.seq_count()
-    }
-
-    pub fn sequence_flags(self) -> SequenceFlags
-        ensures { result ≡ self.sp_header.psc.seq_flags }
-    {
-        let h = self.sp_header;
-        h.sequence_flags()
-    }
-
-    pub fn apid(self) -> Apid
-        ensures { result ≡ self.sp_header.packet_id.apid }
-    {
-        let h = self.sp_header;
-        h.apid()
-    }
-
-    pub fn pus_version(self) -> PusVersion
-        ensures { result ≡ self.sec_header.version }
-    {
-        let x = self.sec_header;
-        x.version
-    }
-
-    pub fn message_type_id(self) -> MessageTypeId
-        ensures { result ≡ self.sec_header.message_type_id }
-    {
-        let x = self.sec_header;
-        x.message_type_id
+        self.crc16.is_some()
     }
 
     pub fn source_id(self) -> u16
         ensures { result ≡ self.sec_header.source_id }
     {
-        let x = self.sec_header;
-        x.source_id
+        self.sec_header.source_id
     }
 
     pub fn ack_flags(self) -> AckFlags
         ensures { result ≡ self.sec_header.ack_flags }
     {
-        let x = self.sec_header;
-        x.ack_flags
+        self.sec_header.ack_flags
+    }
+}
+
+impl CcsdsPacket for PusTcRecord {
+    ghost primary = { λ r. r.sp_header };
+
+    fn sp_header(self) -> SpHeader {
+        self.sp_header
+    }
+}
+
+impl PusPacket for PusTcRecord {
+    ghost message_type = { λ r. r.sec_header.message_type_id };
+
+    ghost version = { λ r. r.sec_header.version };
+
+    fn message_type_id(self) -> MessageTypeId {
+        self.sec_header.message_type_id
     }
 
-    pub fn service_type_id(self) -> u8
-        ensures { result ≡ self.sec_header.message_type_id.type_id }
-    {
-        let x = self.sec_header;
-        x.service_type_id()
-    }
-
-    pub fn message_subtype_id(self) -> u8
-        ensures { result ≡ self.sec_header.message_type_id.subtype_id }
-    {
-        let x = self.sec_header;
-        x.message_subtype_id()
+    fn pus_version(self) -> PusVersion {
+        self.sec_header.version
     }
 }
 
 // ---- parts: each call takes the octets and the choice of checksum, and reads anew
-
-// The octets of the secondary header in a packet whose form is checked already.
-fn sec_header_part(form: TcForm, slice: &[u8]) -> &[u8]
-    ensures result_value { result.now ≡ secondary_of (tc form).size slice.now }
-    ensures ref_ptr_value { result.ref_ptr ≡ beyond (secondary_at slice.now) slice.entry.ref_ptr }
-{
-    frame::sec_header_part(slice, form.sec_header_len())
-}
 
 // The application data; the empty part where the read is refused.
 pub fn app_data(slice: &[u8], has_checksum: bool) -> &[u8]

@@ -1,6 +1,6 @@
 -- The telecommand whose data is filled in its buffer.
 use Rattle.std.specs.Prelude.{ℕ, Bool, List, length}
-use Rattle.space_packet.specs.Answer.{Answer, gives, refuses, ◌then◌, numbers_of}
+use Rattle.space_packet.specs.Answer.{Answer, gives, ◌then◌}
 use Rattle.space_packet.specs.declared.SpacePacketHeader.{SpacePacketHeader}
 use Rattle.ecss.specs.Kind.{start_of}
 use Rattle.ecss_write.specs.Writer.{reserve_by, head_by, headed_by}
@@ -10,8 +10,6 @@ use Rattle.tc_write.specs.Command.{command_in}
 use Rattle.tc_header.specs.declared.PusTcSecondaryHeader.{PusTcSecondaryHeader}
 use Rattle.tc_header.specs.declared.TcForm.{TcForm}
 use Rattle.tc_reserved.specs.declared.PusTcCreatorWithReservedAppData.{PusTcCreatorWithReservedAppData}
-use Rattle.tc_reserved.specs.declared.ReservedResult.{ReservedResult}
-use Rattle.tc_reserved.specs.declared.ReservedResult.TheVariants as R
 
 abbrev pub reservation_in : TcForm → ℕ → Bool → PusTcCreatorWithReservedAppData
 reservation_in f total b = record { held = record { start = start_of (tc f); total = total; has_checksum = b }; form = f }
@@ -25,10 +23,6 @@ reserve_in f h x n b m = reserve_by (command_in f) h x b n m then λ total. give
 
 abbrev pub reserve_of : SpacePacketHeader → PusTcSecondaryHeader → ℕ → Bool → ℕ → Answer PusTcCreatorWithReservedAppData
 reserve_of = reserve_in form_c
-
-abbrev pub reserved_answer : ReservedResult → Answer PusTcCreatorWithReservedAppData
-reserved_answer (R.Ok r) = gives r
-reserved_answer (R.Err e) = refuses (numbers_of e)
 
 -- what it leaves: the headers, as construction sets them, with the length; refused, what was there
 abbrev pub reserved_left_in : TcForm → SpacePacketHeader → PusTcSecondaryHeader → ℕ → Bool → List ℕ → List ℕ

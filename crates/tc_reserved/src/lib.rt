@@ -1,50 +1,27 @@
 // Telecommands whose application data is filled in their buffer, after ECSS-E-ST-70-41C and, for PUS A, ECSS-E-70-41A.
-#![tactic(auto)]
+#![tactic(auto, unfolding(space_packet::specs::Answer::and_then))]
 
 ghost use Rattle.std.specs.Prelude.{◌≡◌, length};
-ghost use Rattle.space_packet.specs.Answer.{size_answer, gives, ◌then◌};
+ghost use Rattle.space_packet.specs.Answer.{answer_of};
 ghost use Rattle.space_packet.specs.Part.{beyond};
 ghost use Rattle.space_packet.specs.Wrote.{Wrote};
 ghost use Rattle.ecss.specs.Kind.{start_of};
-ghost use Rattle.reserve.specs.Reserve.{data_len_of, bounds_of, bounds_answer, within, begins_at, fill_in, filled_by, finish_in, finished, bare_in};
+ghost use Rattle.reserve.specs.Reserve.{data_len_of, bounds_of, within, begins_at, fill_in, filled_by, finish_in, finished, bare_in};
 ghost use Rattle.tc_header.specs.Header.{tc};
-ghost use Rattle.tc_reserved.specs.Reserved.{reservation_in, reserve_in, reserve_of, reserved_answer, reserved_left_in, reserved_left};
+ghost use Rattle.tc_reserved.specs.Reserved.{reserve_in, reserve_of, reserved_left_in, reserved_left};
 
 use ecss::{PusError, frame};
 use ecss_write::packet;
-use reserve::{BoundsResult, Reservation};
-use space_packet::{PacketType, SizeResult, SpHeader};
+use reserve::{Bounds, Reservation};
+use space_packet::{PacketType, SpHeader};
 use tc_header::{PusTcSecondaryHeader, TcForm};
 
 // A reservation by value, with its form; the buffer is lent again to each call. Finishing and borrowing are refused with 8, then
 // 1, and the data's length with 8 alone; 8 too where the reservation does not start at the form's data.
-#[derive(Clone, Copy)]
+#[derive(Clone, Copy, PartialEq, Eq)]
 pub struct PusTcCreatorWithReservedAppData {
     held: Reservation,
     form: TcForm,
-}
-
-#[derive(Clone, Copy)]
-pub enum ReservedResult {
-    Ok(PusTcCreatorWithReservedAppData),
-    Err(PusError),
-}
-
-// The reservation of the total that a buffer has room for.
-fn reservation(form: TcForm, reserved: SizeResult, has_checksum: bool) -> ReservedResult
-    ensures { reserved_answer result ≡ (size_answer reserved then λ total. gives (reservation_in form total has_checksum)) }
-{
-    match reserved {
-        SizeResult::Err(e) => ReservedResult::Err(e),
-        SizeResult::Ok(total) => ReservedResult::Ok(PusTcCreatorWithReservedAppData {
-            held: Reservation {
-                start: form.min_len_without_app_data(),
-                total,
-                has_checksum,
-            },
-            form,
-        }),
-    }
 }
 
 impl PusTcCreatorWithReservedAppData {
@@ -55,8 +32,8 @@ impl PusTcCreatorWithReservedAppData {
         sec_header: PusTcSecondaryHeader,
         app_data_len: usize,
         has_checksum: bool,
-    ) -> ReservedResult
-        ensures { (reserved_answer result ≡ reserve_of sp_header sec_header app_data_len has_checksum (length buf.old)) × (buf.new ≡ reserved_left sp_header sec_header app_data_len has_checksum buf.old) }
+    ) -> Result<PusTcCreatorWithReservedAppData, PusError>
+        ensures { (answer_of result ≡ reserve_of sp_header sec_header app_data_len has_checksum (length buf.old)) × (buf.new ≡ reserved_left sp_header sec_header app_data_len has_checksum buf.old) }
     {
         PusTcCreatorWithReservedAppData::new_in(
             TcForm::PUS_C,
@@ -76,21 +53,27 @@ impl PusTcCreatorWithReservedAppData {
         sec_header: PusTcSecondaryHeader,
         app_data_len: usize,
         has_checksum: bool,
-    ) -> ReservedResult
-        ensures { (reserved_answer result ≡ reserve_in form sp_header sec_header app_data_len has_checksum (length buf.old)) × (buf.new ≡ reserved_left_in form sp_header sec_header app_data_len has_checksum buf.old) }
+    ) -> Result<PusTcCreatorWithReservedAppData, PusError>
+        ensures { (answer_of result ≡ reserve_in form sp_header sec_header app_data_len has_checksum (length buf.old)) × (buf.new ≡ reserved_left_in form sp_header sec_header app_data_len has_checksum buf.old) }
     {
-        let header = packet::as_type(sp_header, PacketType::Tc);
         let mut sec = [0u8; TcForm::MAX_SEC_HEADER_LEN];
-        sec_header.write_to_slice_in(form, &mut sec);
-        let reserved = packet::reserve(
+        let _ = sec_header.write_to_slice_in(form, &mut sec);
+        let total = packet::reserve(
             tc_write::asks(form, sec_header),
-            header,
+            packet::as_type(sp_header, PacketType::Tc),
             frame::front(&sec, form.sec_header_len()),
             app_data_len,
             has_checksum,
             buf,
-        );
-        reservation(form, reserved, has_checksum)
+        )?;
+        Ok(PusTcCreatorWithReservedAppData {
+            held: Reservation {
+                start: form.min_len_without_app_data(),
+                total,
+                has_checksum,
+            },
+            form,
+        })
     }
 
     pub fn form(self) -> TcForm
@@ -107,21 +90,18 @@ impl PusTcCreatorWithReservedAppData {
     }
 
     // The length of the data; 8.
-    pub fn app_data_len(self) -> SizeResult
-        ensures { size_answer result ≡ data_len_of (start_of (tc self.form)) self.held }
+    pub fn app_data_len(self) -> Result<usize, PusError>
+        ensures { answer_of result ≡ data_len_of (start_of (tc self.form)) self.held }
     {
-        let held = self.held;
-        let form = self.form;
-        held.data_len(form.min_len_without_app_data())
+        self.held.data_len(self.form.min_len_without_app_data())
     }
 
     // Where the data lies in a buffer of `found` octets.
-    pub fn app_data_bounds(self, found: usize) -> BoundsResult
-        ensures { bounds_answer result ≡ bounds_of (start_of (tc self.form)) self.held found }
+    pub fn app_data_bounds(self, found: usize) -> Result<Bounds, PusError>
+        ensures { answer_of result ≡ bounds_of (start_of (tc self.form)) self.held found }
     {
-        let held = self.held;
-        let form = self.form;
-        held.bounds(form.min_len_without_app_data(), found)
+        self.held
+            .bounds(self.form.min_len_without_app_data(), found)
     }
 
     // The data, to be read; the empty part where it is refused.
@@ -129,9 +109,7 @@ impl PusTcCreatorWithReservedAppData {
         ensures result_value { result.now ≡ within (bounds_of (start_of (tc self.form)) self.held (length buf.now)) buf.now }
         ensures ref_ptr_value { result.ref_ptr ≡ beyond (begins_at (bounds_of (start_of (tc self.form)) self.held (length buf.now))) buf.entry.ref_ptr }
     {
-        let held = self.held;
-        let form = self.form;
-        held.part(form.min_len_without_app_data(), buf)
+        self.held.part(self.form.min_len_without_app_data(), buf)
     }
 
     // The data, to be written; the empty part where it is refused. The buffer is lent on with the part, so no contract can
@@ -140,41 +118,37 @@ impl PusTcCreatorWithReservedAppData {
         ensures result_value { result.now ≡ within (bounds_of (start_of (tc self.form)) self.held (length buf.old)) buf.old }
         ensures ref_ptr_value { result.ref_ptr ≡ beyond (begins_at (bounds_of (start_of (tc self.form)) self.held (length buf.old))) buf.entry.ref_ptr }
     {
-        let held = self.held;
-        let form = self.form;
-        held.part_mut(form.min_len_without_app_data(), buf)
+        self.held
+            .part_mut(self.form.min_len_without_app_data(), buf)
     }
 
     // Fills the data in from its start; the octets before it and after it stay as they are.
-    pub fn fill_app_data(self, data: &[u8], buf: &mut [u8]) -> SizeResult
-        ensures { (size_answer result ≡ fill_in (start_of (tc self.form)) self.held (length buf.old) (length «data».now)) × (buf.new ≡ filled_by (fill_in (start_of (tc self.form)) self.held (length buf.old) (length «data».now)) (start_of (tc self.form)) «data».now buf.old) }
+    pub fn fill_app_data(self, data: &[u8], buf: &mut [u8]) -> Result<usize, PusError>
+        ensures { (answer_of result ≡ fill_in (start_of (tc self.form)) self.held (length buf.old) (length «data».now)) × (buf.new ≡ filled_by (fill_in (start_of (tc self.form)) self.held (length buf.old) (length «data».now)) (start_of (tc self.form)) «data».now buf.old) }
     {
-        let held = self.held;
-        let form = self.form;
-        held.fill(form.min_len_without_app_data(), data, buf)
+        self.held
+            .fill(self.form.min_len_without_app_data(), data, buf)
     }
 
     // Writes the checksum, where there is one, and answers the total.
-    pub fn finalize(self, buf: &mut [u8]) -> SizeResult
+    pub fn finalize(self, buf: &mut [u8]) -> Result<usize, PusError>
         ensures { Wrote (finish_in (start_of (tc self.form)) self.held (length buf.old)) (finished self.held buf.old) buf.old result buf.new }
     {
-        let held = self.held;
-        let form = self.form;
-        held.finalize(form.min_len_without_app_data(), buf)
+        self.held
+            .finalize(self.form.min_len_without_app_data(), buf)
     }
 
-    pub fn finalize_checksum_no_table(self, buf: &mut [u8]) -> SizeResult
+    pub fn finalize_checksum_no_table(self, buf: &mut [u8]) -> Result<usize, PusError>
         ensures { Wrote (finish_in (start_of (tc self.form)) self.held (length buf.old)) (finished self.held buf.old) buf.old result buf.new }
     {
         self.finalize(buf)
     }
 
     // Writes nothing, and answers the total less the checksum's place.
-    pub fn finalize_no_checksum(self, buf: &[u8]) -> SizeResult
-        ensures { size_answer result ≡ bare_in (start_of (tc self.form)) self.held (length buf.now) }
+    pub fn finalize_no_checksum(self, buf: &[u8]) -> Result<usize, PusError>
+        ensures { answer_of result ≡ bare_in (start_of (tc self.form)) self.held (length buf.now) }
     {
-        let held = self.held;
-        let form = self.form;
-        held.finalize_no_checksum(form.min_len_without_app_data(), buf)
+        self.held
+            .finalize_no_checksum(self.form.min_len_without_app_data(), buf)
     }
 }

@@ -7,7 +7,7 @@ use native.Mathlib.Omega.{arith}
 use lib.ListN.{length, take, drop, length-drop}
 use lib.Seq.{take_all}
 use lib.Dec.{ltb, leb}
-use borrow.Author.Tests.{lt-ltb, le-ltb, le-leb, lt-leb, ltb-false, leb-true, leb-false}
+use borrow.Author.Tests.{le-ltb, le-leb, lt-leb, ltb-false, leb-true, leb-false}
 use Rattle.space_packet.specs.Bits.{pick}
 use Rattle.space_packet.specs.Answer.{Answer}
 use Rattle.ecss.specs.Frame.{stated_of}
@@ -19,12 +19,6 @@ use Rattle.tc_strict.specs.Split.{Piece, packet, tail, end, piece, is_tail, piec
 -- what remains from `at` on, as a part of the capture
 pub rest-is : (s : List ℕ) (at : ℕ) → take (length s - at) (drop at s) ≡ drop at s
 rest-is s at = take_all (length s - at) (drop at s) (omega (arith, length-drop at s))
-
-pub too_short : (rest : List ℕ) → length rest < 6 → is_tail rest ≡ true
-too_short rest h = ap (λ (b : Bool). b || ltb (length rest) (stated_of rest)) (lt-ltb (length rest) 6 h)
-
-pub cut_off : (rest : List ℕ) → 6 ≤ length rest → length rest < stated_of rest → is_tail rest ≡ true
-cut_off rest h k = ap₂ ◌||◌ (le-ltb (length rest) 6 h) (lt-ltb (length rest) (stated_of rest) k)
 
 pub whole : (rest : List ℕ) → 6 ≤ length rest → stated_of rest ≤ length rest → is_tail rest ≡ false
 whole rest h k = ap₂ ◌||◌ (le-ltb (length rest) 6 h) (le-ltb (length rest) (stated_of rest) k)

@@ -3,7 +3,7 @@ use Prim.Native.Nat.{ℕ}
 use mathlib.Core.Path.{◌≡◌, refl, sym, ap, ◌∙◌}
 use mathlib.Core.Bool.{true}
 use mathlib.Core.List.{List}
-use Rattle.space_packet.specs.Answer.{Answer, Passed, Numbers, gives, refuses, ◌then◌}
+use Rattle.space_packet.specs.Answer.{Answer, Passed, Numbers, gives, refuses, ◌then◌, and_then}
 use Rattle.space_packet.specs.Header.{read_header}
 use Rattle.ecss.specs.Frame.{stated_of, checked_of}
 use Rattle.ecss.specs.Kind.{Packet, start_of, secondary_of, strict_rule, judge}
@@ -30,7 +30,7 @@ module _ (f : TcForm) (s : List ℕ) where
   -- by the two answers, and not by how the definition groups them
   by-answers : (a : Passed) (j : Answer (Packet PusTcSecondaryHeader)) → form_check f ≡ a → judge (tc f) s ≡ j
       → strict_in f s ≡ After.verdict_after (form_check f) (tc f) s (record_in f s true)
-  unfolding strict_in ◌then◌
+  unfolding strict_in and_then
   by-answers (refuses e) j p q = rw p refl
   by-answers (gives u) (refuses e) p q = rw (p, q) refl
   by-answers (gives u) (gives x) p q = simp (p, q, passed x q)

@@ -1,12 +1,12 @@
 -- The splitter: a capture as a row of packets, each judged alone, and a tail.
 use Rattle.std.specs.Prelude.{ℕ, zero, suc, ◌+◌, Bool, ◌||◌, List, [], ◌∷◌, length, take, drop, ltb, leb}
+use Rattle.space_packet.specs.Answer.{answer_of, Answer}
 use Rattle.space_packet.specs.Bits.{pick}
-use Rattle.space_packet.specs.Answer.{Answer}
 use Rattle.ecss.specs.Frame.{stated_of}
 use Rattle.tc_header.specs.Form.{form_c}
 use Rattle.tc_header.specs.declared.TcForm.{TcForm}
 use Rattle.tc_read.specs.declared.PusTcRecord.{PusTcRecord}
-use Rattle.tc_strict.specs.Verdict.{strict_in, verdict_answer}
+use Rattle.tc_strict.specs.Verdict.{strict_in}
 use Rattle.tc_strict.specs.declared.split.Step.{Step}
 use Rattle.tc_strict.specs.declared.split.Step.TheVariants as S
 
@@ -30,7 +30,7 @@ length_of (tail at n) = n
 
 abbrev pub step_answer : Step → Next
 step_answer S.End = end
-step_answer (S.Packet at n v next) = piece (packet at n (verdict_answer v)) next.at
+step_answer (S.Packet at n v next) = piece (packet at n (answer_of v)) next.at
 step_answer (S.Tail at n next) = piece (tail at n) next.at
 
 -- a piece, and the walk on from behind it

@@ -2,22 +2,23 @@
 ghost use Rattle.std.specs.Prelude.{◌≡◌, ◌-◌, ◌≤◌};
 ghost use Rattle.tc_strict.specs.Split.{step_in, step_of, step_answer};
 
-use crate::Verdict;
+use space_packet::{CCSDS_HEADER_LEN, PusError};
 use tc_header::TcForm;
+use tc_read::PusTcRecord;
 
 // A place in a capture.
-#[derive(Clone, Copy)]
+#[derive(Clone, Copy, PartialEq, Eq)]
 pub struct Cursor {
     pub at: usize,
 }
 
-#[derive(Clone, Copy)]
+#[derive(Clone, Copy, PartialEq, Eq)]
 pub enum Step {
     // A packet of `total` octets from `at` on, its verdict, and where to go on.
     Packet {
         at: usize,
         total: usize,
-        verdict: Verdict,
+        verdict: Result<PusTcRecord, PusError>,
         next: Cursor,
     },
     // Octets that are no whole packet, up to the capture's end.
@@ -58,6 +59,7 @@ impl Cursor {
     }
 
     // Its packets are of a form; where that is refused, each of them is.
+    #[tactic(auto, unfolding(crate::specs::Split::piece_by, crate::specs::Split::step_by))]
     pub fn step_in(self, form: TcForm, capture: &[u8]) -> Step
         ensures { step_answer result ≡ step_in form capture.now self.at }
     {
@@ -67,18 +69,17 @@ impl Cursor {
             return Step::End;
         }
         let rest = &capture[at..];
-        if rest.len() < 6 {
+        if rest.len() < CCSDS_HEADER_LEN {
             return tail(at, n);
         }
         let total = space_packet::word_at(rest, 4) as usize + 7;
         if rest.len() < total {
             return tail(at, n);
         }
-        let packet = &rest[..total];
         Step::Packet {
             at,
             total,
-            verdict: crate::judge_in(form, packet),
+            verdict: crate::judge_in(form, &rest[..total]),
             next: Cursor { at: at + total },
         }
     }

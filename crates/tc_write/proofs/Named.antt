@@ -14,7 +14,7 @@ asking b a =
     builder_of
     (with_sec b.0 (sec_from b.0.sec_header.message_type_id a b.0.sec_header.source_id b.0.sec_header.version))
 
--- what `with_ack_flags` hands back of a builder
+-- what `with_ack_flags` answers, and what it leaves of a builder
 abbrev pub with_flags : PusTcBuilder → AckFlags → Kept PusTcBuilder
 with_flags b a = set_if (ack_check a) b (asking b a)
 

@@ -1,19 +1,27 @@
 -- Creators with their data are the same, by the call, where both are equal and only there.
-use mathlib.Core.Path.{◌≡◌, ap}
-use mathlib.Core.Bool.{true}
+use mathlib.Core.Path.{◌≡◌, sym, ap}
+use mathlib.Core.Bool.{Bool, true, ◌&&◌}
 use mathlib.Core.List.{List}
 use mathlib.Core.Logic.{◌↔◌}
 use Prim.Native.Nat.{ℕ}
 use lib.Dec.{eqb}
 use borrow.Author.Tests.{eqb-true, eq-eqb}
 use Rattle.space_packet.proofs.Same.{same-header, both, same_number, same_flag}
-use Rattle.ecss.proofs.Octets.{same-octets}
+use Rattle.ecss.proofs.Octets.{same-octets, pairwise-same}
+use lib.Pointwise.{pointwise}
+use native.Mathlib.Omega.{arith}
+use Rattle.std.proofs.Math.Bool.{beq}
+use Rattle.space_packet.proofs.Numbers.{beq-flag}
+use Rattle.space_packet.specs.contracts.SpacePacketHeaderPartialEq.TheImpl as Primary
+use Rattle.tc_header.specs.contracts.PusTcSecondaryHeaderPartialEq.TheImpl as Secondary
+use Rattle.tc_header.specs.contracts.TcFormPartialEq.TheImpl as Form
+use Rattle.tc_write.specs.contracts.PusTcCreatorPartialEq.TheImpl as Derived
 use Rattle.ecss.specs.Version.{version_number}
 use Rattle.ecss.specs.declared.PusVersion.{PusVersion}
 use Rattle.tc_header.specs.Form.{same_form}
 use Rattle.tc_header.specs.declared.TcForm.{TcForm}
 use Rattle.ecss.proofs.Versions.{version-told}
-use Rattle.tc_header.proofs.Same.{same-sec}
+use Rattle.tc_header.proofs.Same.{same-sec, compared-primary, compared-secondary, compared-form}
 use Rattle.tc_write.specs.Creator.{creator_in, same_creator}
 use Rattle.tc_write.specs.declared.PusTcCreator.{PusTcCreator}
 
@@ -28,6 +36,9 @@ same-form f g =
       λ p. let e = k.0 p in λ i. record { version = e.0 i; source_width = e.1.0 i; spare_len = e.1.1 i },
       λ e. k.1 (λ i. (e i).version, (λ i. (e i).source_width, λ i. (e i).spare_len)),
     )
+
+regrouped : (f h x o b : Bool) → (f && (h && (x && (o && b)))) ≡ ((h && (x && (b && f))) && o)
+regrouped f h x o b = grind arith
 
 module _ (t : PusTcCreator) (d : List ℕ) (u : PusTcCreator) (e : List ℕ) where
   parts : (same_creator t d u e ≡ true)
@@ -48,3 +59,10 @@ module _ (t : PusTcCreator) (d : List ℕ) (u : PusTcCreator) (e : List ℕ) whe
         let q = p.0 in
         parts.1 (λ i. (q i).form, (λ i. (q i).sp_header, (λ i. (q i).sec_header, (p.1, λ i. (q i).has_checksum)))),
   )
+
+  -- and by the tests of the code: `==` of the creators and of the data
+  pub compared : same_creator t d u e ≡ (Derived.ghosts.eq t u && pointwise eqb d e)
+  unfolding same_creator
+  compared =
+      rw (sym (compared-form t.form u.form), sym (compared-primary t.sp_header u.sp_header), sym (compared-secondary t.sec_header u.sec_header), sym (beq-flag t.has_checksum u.has_checksum), sym (pairwise-same d e))
+      (regrouped (Form.ghosts.eq t.form u.form) (Primary.ghosts.eq t.sp_header u.sp_header) (Secondary.ghosts.eq t.sec_header u.sec_header) (pointwise eqb d e) (beq t.has_checksum u.has_checksum))

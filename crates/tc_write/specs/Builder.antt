@@ -1,6 +1,5 @@
 -- The telecommand's builder.
 use Rattle.std.specs.Prelude.{◌+◌, true}
-use Rattle.space_packet.specs.Answer.{Answer, Kept, gives, refuses, numbers_of, check_answer}
 use Rattle.space_packet.specs.Header.{header_of, id_from, psc_from}
 use Rattle.space_packet.specs.declared.PacketType.TheVariants.{Tc}
 use Rattle.space_packet.specs.declared.SequenceFlags.TheVariants.{Unsegmented}
@@ -12,9 +11,6 @@ use Rattle.tc_header.specs.declared.TcForm.{TcForm}
 use Rattle.tc_write.specs.Creator.{creator_in}
 use Rattle.tc_write.specs.declared.PusTcCreator.{PusTcCreator}
 use Rattle.tc_write.specs.declared.PusTcBuilder.{PusTcBuilder}
-use Rattle.tc_write.specs.declared.PusTcBuilderSet.{PusTcBuilderSet}
-use Rattle.tc_write.specs.declared.PusTcBuilderResult.{PusTcBuilderResult}
-use Rattle.tc_write.specs.declared.PusTcBuilderResult.TheVariants as B
 
 -- a creator in the making
 abbrev pub builder_of : PusTcCreator → PusTcBuilder
@@ -37,10 +33,3 @@ builder_in f = builder_with f default_ack
 
 abbrev pub default_builder : PusTcBuilder
 default_builder = builder_in form_c
-
-abbrev pub builder_answer : PusTcBuilderResult → Answer PusTcBuilder
-builder_answer (B.Ok b) = gives b
-builder_answer (B.Err e) = refuses (numbers_of e)
-
-abbrev pub builder_kept : PusTcBuilderSet → Kept PusTcBuilder
-builder_kept r = record { passed = check_answer r.result; kept = r.builder }

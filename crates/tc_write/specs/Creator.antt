@@ -1,14 +1,13 @@
 -- The telecommand's creator: construction, the length, and what is written. Its data d, or their number n, travel beside it.
-use Rattle.std.specs.Prelude.{ℕ, Bool, ◌&&◌, List, eqb, length}
+use Rattle.std.specs.Prelude.{ℕ, Bool, ◌&&◌, List, eqb, length, Option, Result}
+use Rattle.space_packet.specs.Answer.{Answer, Kept, gives, ◌then◌}
+use Rattle.space_packet.specs.declared.PusError.{PusError}
 use Rattle.space_packet.specs.Bits.{flag_number}
-use Rattle.space_packet.specs.Answer.{Answer, Kept, gives, refuses, ◌then◌, numbers_of, check_answer}
 use Rattle.space_packet.specs.Header.{same_header}
 use Rattle.space_packet.specs.Wrote.{Wrote}
 use Rattle.space_packet.specs.declared.SpacePacketHeader.{SpacePacketHeader}
-use Rattle.space_packet.specs.declared.SizeResult.{SizeResult}
 use Rattle.ecss.specs.Frame.{same_octets}
 use Rattle.ecss.specs.declared.CreatorConfig.{CreatorConfig}
-use Rattle.ecss.specs.declared.Crc16.{Crc16}
 use Rattle.ecss_write.specs.Write.{checksum_with, kept_with}
 use Rattle.ecss_write.specs.Writer.{content_by, octets_by, new_by, afresh_by, write_by, bare_by, own_by}
 use Rattle.tc_header.specs.Form.{form_c, same_form}
@@ -17,9 +16,6 @@ use Rattle.tc_write.specs.Command.{command_in}
 use Rattle.tc_header.specs.declared.PusTcSecondaryHeader.{PusTcSecondaryHeader}
 use Rattle.tc_header.specs.declared.TcForm.{TcForm}
 use Rattle.tc_write.specs.declared.PusTcCreator.{PusTcCreator}
-use Rattle.tc_write.specs.declared.PusTcCreatorSet.{PusTcCreatorSet}
-use Rattle.tc_write.specs.declared.PusTcCreatorResult.{PusTcCreatorResult}
-use Rattle.tc_write.specs.declared.PusTcCreatorResult.TheVariants as R
 
 abbrev pub creator_in : TcForm → SpacePacketHeader → PusTcSecondaryHeader → Bool → PusTcCreator
 creator_in f h x b = record { form = f; sp_header = h; sec_header = x; has_checksum = b }
@@ -45,13 +41,7 @@ new_in f h x n config =
 abbrev pub new_of : SpacePacketHeader → PusTcSecondaryHeader → ℕ → CreatorConfig → Answer PusTcCreator
 new_of = new_in form_c
 
-abbrev pub creator_answer : PusTcCreatorResult → Answer PusTcCreator
-creator_answer (R.Ok t) = gives t
-creator_answer (R.Err e) = refuses (numbers_of e)
-
--- an edit is refused for what is handed in only, and then hands back the old record
-abbrev pub creator_kept : PusTcCreatorSet → Kept PusTcCreator
-creator_kept r = record { passed = check_answer r.result; kept = r.creator }
+-- an edit is refused for what is handed in only, and then keeps the old record
 
 abbrev pub with_header : PusTcCreator → SpacePacketHeader → PusTcCreator
 with_header t h = creator_in t.form h t.sec_header t.has_checksum
@@ -68,7 +58,7 @@ abbrev pub own_checksum : PusTcCreator → List ℕ → Answer ℕ
 own_checksum t d = own_by (command_in t.form) t.sp_header t.sec_header d
 
 -- the checksum that is written: none, or its own
-abbrev pub checksum_of : PusTcCreator → List ℕ → Answer Crc16
+abbrev pub checksum_of : PusTcCreator → List ℕ → Answer (Option ℕ)
 checksum_of t d = checksum_with t.has_checksum (own_checksum t d)
 
 -- writing into a buffer of m octets: 32, 19, 7, 6 for the machine size, 1, 3
@@ -80,11 +70,11 @@ abbrev pub bare_of : PusTcCreator → ℕ → ℕ → Answer ℕ
 bare_of t n m = bare_by (command_in t.form) t.sp_header t.sec_header t.has_checksum n m
 
 -- the packet stands over the first octets of the buffer, and its length is answered; refused, the buffer is as it was
-abbrev pub PacketWrote : PusTcCreator → List ℕ → List ℕ → SizeResult → List ℕ → Type 0
+abbrev pub PacketWrote : PusTcCreator → List ℕ → List ℕ → Result ℕ PusError → List ℕ → Type 0
 PacketWrote t d before r after = Wrote (write_of t (length d) (length before)) (octets_for t d) before r after
 
 -- and without the checksum, whose places are left as they were
-abbrev pub ContentWrote : PusTcCreator → List ℕ → List ℕ → SizeResult → List ℕ → Type 0
+abbrev pub ContentWrote : PusTcCreator → List ℕ → List ℕ → Result ℕ PusError → List ℕ → Type 0
 ContentWrote t d before r after = Wrote (bare_of t (length d) (length before)) (content_for t d) before r after
 
 -- the form, the headers, the data and the choice of checksum are the same

@@ -1,8 +1,6 @@
 -- Numbers and octets as text.
-use Rattle.std.specs.Prelude.{ℕ, zero, suc, ◌+◌, ◌*◌, ◌-◌, ◌/◌, ◌%◌, Bool, true, false, List, [], ◌∷◌, ◌++◌, eqb, ltb, length, drop}
+use Rattle.std.specs.Prelude.{ℕ, zero, suc, ◌+◌, ◌*◌, ◌-◌, ◌/◌, ◌%◌, Bool, true, false, List, [], ◌∷◌, ◌++◌, eqb, ltb, length, drop, Option, Some, None, option_and_then}
 use Rattle.text.specs.Pieces.{pick}
-use Rattle.text.specs.declared.Value.{Value}
-use Rattle.text.specs.declared.Value.TheVariants.{Is, Bad}
 
 -- a hexadecimal digit's character: `0` to `9`, then `A` to `F`
 unfoldable pub hex_glyph : ℕ → ℕ
@@ -55,24 +53,20 @@ unfoldable pub decimal : ℕ → List ℕ
 decimal n = decimal_in 20 n
 
 -- a number's digits and one more, where it is one and the number stays below 2^64
-unfoldable pub with_digit : ℕ → ℕ → Value
-with_digit n d = pick (ltb 9 d) Bad (pick (ltb 18446744073709551615 (n * 10 + d)) Bad (Is (n * 10 + d)))
+unfoldable pub with_digit : ℕ → ℕ → Option ℕ
+with_digit n d = pick (ltb 9 d) None (pick (ltb 18446744073709551615 (n * 10 + d)) None (Some (n * 10 + d)))
 
-unfoldable pub and_then : Value → (ℕ → Value) → Value
-and_then (Is n) f = f n
-and_then Bad f = Bad
-
-unfoldable pub number_from : ℕ → List ℕ → Value
-number_from n [] = Is n
-number_from n (c ∷ l) = and_then (with_digit n (hex_value c)) (λ m. number_from m l)
+unfoldable pub number_from : ℕ → List ℕ → Option ℕ
+number_from n [] = Some n
+number_from n (c ∷ l) = option_and_then (λ m. number_from m l) (with_digit n (hex_value c))
 
 -- 1 to 20 digits
-unfoldable pub number_of : List ℕ → Value
-number_of l = pick (eqb (length l) 0) Bad (pick (ltb 20 (length l)) Bad (number_from 0 l))
+unfoldable pub number_of : List ℕ → Option ℕ
+number_of l = pick (eqb (length l) 0) None (pick (ltb 20 (length l)) None (number_from 0 l))
 
 -- four hexadecimal digits
-unfoldable pub word_of : List ℕ → Value
+unfoldable pub word_of : List ℕ → Option ℕ
 word_of l =
     pick (eqb (length l) 4)
-    (pick (ltb 255 (pair_of l)) Bad (pick (ltb 255 (pair_of (drop 2 l))) Bad (Is (pair_of l * 256 + pair_of (drop 2 l)))))
-    Bad
+    (pick (ltb 255 (pair_of l)) None (pick (ltb 255 (pair_of (drop 2 l))) None (Some (pair_of l * 256 + pair_of (drop 2 l)))))
+    None

@@ -1,9 +1,7 @@
 -- A buffer that is filled from a place on.
-use Rattle.std.specs.Prelude.{ℕ, ◌+◌, ◌/◌, List, [], ◌∷◌, ◌++◌, eqb, ltb, length, get_or, drop, set}
+use Rattle.std.specs.Prelude.{ℕ, ◌+◌, ◌/◌, List, [], ◌∷◌, ◌++◌, eqb, ltb, length, get_or, drop, set, Option, Some, None}
 use Rattle.text.specs.Pieces.{pick}
 use Rattle.text.specs.Digits.{are_pairs, pair_octets}
-use Rattle.text.specs.declared.Value.{Value}
-use Rattle.text.specs.declared.Value.TheVariants.{Is, Bad}
 
 pub record Page : Type 0 where
   pub octets : List ℕ
@@ -29,20 +27,20 @@ at_start before t = page (t ++ drop (length t) before) (length t)
 
 -- how many were read, or that the text is none, and the buffer
 pub record OctetsRead : Type 0 where
-  pub value : Value
+  pub value : Option ℕ
   pub left : List ℕ
 
-abbrev pub read : Value → List ℕ → OctetsRead
+abbrev pub read : Option ℕ → List ℕ → OctetsRead
 read v l = record { value = v; left = l }
 
 abbrev pub filled : Page → OctetsRead
-filled p = read (Is p.place) p.octets
+filled p = read (Some p.place) p.octets
 
 -- `-` for none, or one or more pairs of digits whose octets have room; any other text leaves the buffer as it was
 unfoldable pub octets_of : List ℕ → List ℕ → OctetsRead
 octets_of before l =
-    pick (eqb (length l) 0) (read Bad before)
+    pick (eqb (length l) 0) (read None before)
     (pick (eqb (length l) 1)
-    (pick (eqb (get_or l 0 0) 45) (read (Is 0) before) (read Bad before))
-    (pick (ltb (length before) (length l / 2)) (read Bad before)
-    (pick (are_pairs l) (filled (at_start before (pair_octets l))) (read Bad before))))
+    (pick (eqb (get_or l 0 0) 45) (read (Some 0) before) (read None before))
+    (pick (ltb (length before) (length l / 2)) (read None before)
+    (pick (are_pairs l) (filled (at_start before (pair_octets l))) (read None before))))

@@ -10,16 +10,16 @@ use Rattle.space_packet.specs.Answer.{Answer, gives, refuses}
 use Rattle.space_packet.specs.Header.{same_header}
 use Rattle.space_packet.proofs.Same.{same-header}
 use Rattle.ecss.specs.Frame.{same_octets}
-use Rattle.ecss.proofs.Octets.{same-octets, ReadAlike, same_read}
+use Rattle.ecss.proofs.Octets.{same-octets, pairwise-same, ReadAlike, same_read}
 use Rattle.tm_header.specs.Header.{same_sec}
-use Rattle.tm_header.proofs.Same.{same-sec}
+use Rattle.tm_header.proofs.Same.{same-sec, compared-primary, compared-secondary}
 use Rattle.tm_write.specs.declared.PusTmCreator.{PusTmCreator}
 use Rattle.tm_read.specs.Read.{read_in, timestamp_in, source_data_in, raw_data_in}
 use Rattle.tm_read.specs.declared.PusTmRecord.{PusTmRecord}
 use Rattle.tm_compare.specs.Compare.{reports_creator, equals_creator_in, equals_reader_in}
 
 -- what was read compared with a creator, where the comparisons of both headers and the time are known
-pub creator-compared : (a : Answer PusTmRecord) (time user : List ℕ) (c : PusTmCreator) (l d : List ℕ) (r : PusTmRecord) (h x z : Bool) → a ≡ gives r
+creator-compared : (a : Answer PusTmRecord) (time user : List ℕ) (c : PusTmCreator) (l d : List ℕ) (r : PusTmRecord) (h x z : Bool) → a ≡ gives r
     → same_header r.sp_header c.sp_header ≡ h → same_sec r.sec_header c.sec_header ≡ x → same_octets time l ≡ z
     → reports_creator a time user c l d ≡ h && (x && (z && same_octets user d))
 creator-compared a time user c l d r h x z p q s y =
@@ -70,3 +70,6 @@ equals-creator t s b c l d = (
 pub equals-reader : (t : ℕ) (s : List ℕ) (b : Bool) (u : List ℕ) (c : Bool)
     → (equals_reader_in t s b u c ≡ true) ↔ ReadAlike (read_in t s b) (read_in t u c) (raw_data_in t s b) (raw_data_in t u c)
 equals-reader t s b u c = same_read _ _ _ _
+
+-- what the check cites of the tests in the code: both headers and octets
+pub ruleset parts = (compared-primary, compared-secondary, pairwise-same)

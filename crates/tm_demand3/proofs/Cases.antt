@@ -1,7 +1,7 @@
 -- The cases at the edges hold: each is computed from the definitions.
 use mathlib.Core.Path.{refl}
 use Rattle.crc_register.specs.Crc.{◌⊕◌, bit, shift_in, run, octet_bits, bits_of, crc_from}
-use Rattle.space_packet.specs.Answer.{refuse_if, ◌then◌}
+use Rattle.space_packet.specs.Answer.{refuse_if, and_then}
 use Rattle.space_packet.specs.Fields.{id_of, psc_of}
 use Rattle.space_packet.specs.Header.{read_header, header_check}
 use Rattle.ecss.specs.Frame.{frame_of, checked_of, frame_after, checked_after}
@@ -16,7 +16,7 @@ use Rattle.tc_strict.specs.Verdict as Tc
 use Rattle.tm_demand3.specs.Cases.{Cases}
 
 pub cases-hold : Cases
-unfolding ◌⊕◌ bit shift_in run octet_bits bits_of crc_from refuse_if ◌then◌ id_of psc_of read_header header_check frame_of checked_of frame_after checked_after machine_total length_field field_with pus_rule strict_rule read_as judge time_limit time_check fields_of tm_of record_in read_in checked_in strict_in form_check tc_of Tc.strict_in
+unfolding ◌⊕◌ bit shift_in run octet_bits bits_of crc_from refuse_if and_then id_of psc_of read_header header_check frame_of checked_of frame_after checked_after machine_total length_field field_with pus_rule strict_rule read_as judge time_limit time_check fields_of tm_of record_in read_in checked_in strict_in form_check tc_of Tc.strict_in
 cases-hold =
     record {
       taken = refl;

@@ -8,10 +8,11 @@ use mathlib.Core.Bool.{true, false}
 use mathlib.Core.List.{List, [], ◌++◌}
 use native.Mathlib.Omega.{arith}
 use lib.ListN.{length, take, drop}
+use Rattle.std.specs.Prelude.{Result}
+use Rattle.space_packet.specs.declared.PusError.{PusError}
 use Rattle.space_packet.specs.Answer.{Numbers, gives, refuses, refusal}
 use Rattle.space_packet.specs.Fields.{type_number, is_idle}
 use Rattle.space_packet.specs.declared.SpacePacketHeader.{SpacePacketHeader}
-use Rattle.space_packet.specs.declared.SizeResult.{SizeResult}
 use Rattle.space_packet.proofs.Answers.{gives-inj, gives_then, then-gives, refuses-then}
 use Rattle.ecss.specs.Frame.{Octets, stated_of, Told}
 use Rattle.ecss.specs.Kind.{Rules, BeginsWith, as_idle, start_of, packet_of, judge}
@@ -119,7 +120,7 @@ module _ (t : ℕ) (good : time_limit t ≡ gives tt) where
   -- 4. Written packets are accepted: whatever write_to_slice in both checksum forms, construction with a write, and the reserved
   -- writer with its finish leave in a buffer, for headers, time and data under those rules, is accepted, in a buffer of any length
   -- that has room and with anything after it. First write_to_slice, whose two forms have one contract:
-  pub written-accepted : (h : SpacePacketHeader) (x : PusTmSecondaryHeader) (l d before after : List ℕ) (r : SizeResult)
+  pub written-accepted : (h : SpacePacketHeader) (x : PusTmSecondaryHeader) (l d before after : List ℕ) (r : Result ℕ PusError)
       → Rules (tm t) (packet_by h (timed x l) d) → Room (tm t) d before → PacketWrote (creator_of t h x true) l d before r after
       → Accepted (tm t) (report_for t) (strict_in t) (packet_by h (timed x l) d) before r after
   written-accepted h x l = Any.written-accepted (report_by t) laws (report_for t) (strict_in t) reports h (timed x l)
@@ -136,7 +137,7 @@ module _ (t : ℕ) (good : time_limit t ≡ gives tt) where
   -- and where the fields are in range it makes a creator c, and what c writes is accepted.
   pub built-accepted : (p : Telemetry) (before : List ℕ) → Handed (tm t) p → Room (tm t) p.user before
       → (c : PusTmCreator) × (new_of t p.primary p.secondary.fields p.secondary.time (length p.user) default_config ≡ gives c)
-      × ((r : SizeResult) (after : List ℕ) → PacketWrote c p.secondary.time p.user before r after → Accepted (tm t) (report_for t) (strict_in t) (made_of (report_by t) p) before r after)
+      × ((r : Result ℕ PusError) (after : List ℕ) → PacketWrote c p.secondary.time p.user before r after → Accepted (tm t) (report_for t) (strict_in t) (made_of (report_by t) p) before r after)
   built-accepted p before g k = (
     creator_of t (made_by (report_by t) p.primary p.user) p.secondary.fields true,
     gives_then _ _ _ (handed-new (report_by t) laws p.primary p.secondary p.user g),
@@ -146,7 +147,7 @@ module _ (t : ℕ) (good : time_limit t ≡ gives tt) where
   -- Then the reserved writer: it gives a reservation q, and what is filled in there and finished is accepted.
   pub reserved-accepted : (p : Telemetry) (before : List ℕ) → Handed (tm t) p → Room (tm t) p.user before
       → (q : PusTmCreatorWithReservedSourceData) × (reserve_of t p.primary p.secondary (length p.user) true (length before) ≡ gives q)
-      × ((r : SizeResult) (after : List ℕ) → FinishedBy (report_by t) (start_in q.time_len) q.held p before r after → Accepted (tm t) (report_for t) (strict_in t) (made_of (report_by t) p) before r after)
+      × ((r : Result ℕ PusError) (after : List ℕ) → FinishedBy (report_by t) (start_in q.time_len) q.held p before r after → Accepted (tm t) (report_for t) (strict_in t) (made_of (report_by t) p) before r after)
   reserved-accepted p before g k = (
     reservation_of t (total_for (tm t) p.user) true,
     gives_then _ _ _ (handed-reserve (report_by t) laws p.primary p.secondary p.user (length before) g k.fits k.is_slice),

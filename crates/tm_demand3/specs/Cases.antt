@@ -1,13 +1,12 @@
 -- Cases at the edges, as one table of what the definitions answer: a report with a time of 7 octets, shorter and longer times, and
 -- telemetry beside telecommands.
-use Rattle.std.specs.Prelude.{◌≡◌, Bool, true, false, List, [], ◌∷◌, ◌++◌, ℕ, ◌+◌, ◌-◌, ◌*◌}
+use Rattle.std.specs.Prelude.{◌≡◌, Bool, true, false, List, [], ◌∷◌, ◌++◌, ℕ, ◌+◌, ◌-◌, ◌*◌, Some}
 use Rattle.space_packet.specs.Answer.{gives, refuses, refusal}
 use Rattle.space_packet.specs.declared.PacketType.{PacketType}
 use Rattle.space_packet.specs.declared.PacketType.TheVariants as T
 use Rattle.space_packet.specs.declared.SequenceFlags.TheVariants.{Unsegmented}
 use Rattle.space_packet.specs.declared.SpacePacketHeader.{SpacePacketHeader}
 use Rattle.ecss.specs.Version.{default_config}
-use Rattle.ecss.specs.declared.Crc16.TheVariants.{Some}
 use Rattle.ecss.specs.declared.PusVersion.TheVariants.{PusC}
 use Rattle.ecss_write.specs.Write.{length_field}
 use Rattle.tm_header.specs.Header.{time_check, sec_from}

@@ -1,17 +1,15 @@
 -- What the customer asks of the strict verdict on telemetry, over the length t of its time: what every kind is asked (`exactness`,
 -- specs/Demand3.antt), with the most data and the report. The written rules are `Rules (tm t) p`, and that octets s begin with the
 -- packet of p under them is `BeginsWith (tm t) s p` (`ecss`, specs/Kind.antt); p is two headers, the second with its time, and data.
-use Rattle.std.specs.Prelude.{ℕ, ◌+◌, ◌-◌, ◌≤◌, ◌≡◌, length}
+use Rattle.std.specs.Prelude.{ℕ, ◌+◌, ◌-◌, ◌≤◌, ◌≡◌, length, Some, Result}
+use Rattle.space_packet.specs.Answer.{answer_of, Answer, gives}
+use Rattle.space_packet.specs.declared.PusError.{PusError}
 use Rattle.crc_register.specs.Crc.{crc_of}
-use Rattle.space_packet.specs.Answer.{Answer, gives}
 use Rattle.ecss.specs.Kind.{Packet, content_of}
-use Rattle.ecss.specs.declared.Crc16.TheVariants.{Some}
 use Rattle.exactness.specs.Demand3.{total_for}
 use Rattle.tm_header.specs.Header.{TmHeader, tm}
 use Rattle.tm_read.specs.Read.{start_in}
 use Rattle.tm_read.specs.declared.PusTmRecord.{PusTmRecord}
-use Rattle.tm_strict.specs.Verdict.{verdict_answer}
-use Rattle.tm_strict.specs.declared.Verdict.{Verdict}
 
 -- headers, time and source data
 abbrev pub Telemetry : Type 0
@@ -43,5 +41,5 @@ module _ (t : ℕ) where
   }
 
   -- the verdict v accepts it and reports it
-  abbrev pub Accepts : Verdict → Telemetry → Type 0
-  Accepts v p = verdict_answer v ≡ gives (report_for p)
+  abbrev pub Accepts : Result PusTmRecord PusError → Telemetry → Type 0
+  Accepts v p = answer_of v ≡ gives (report_for p)

@@ -8,7 +8,7 @@
 
 ghost use Rattle.std.specs.Prelude.{◌≡◌, true, length};
 ghost use Rattle.space_packet.specs.Wrote.{Wrote};
-ghost use Rattle.space_packet.specs.Answer.{gives};
+ghost use Rattle.space_packet.specs.Answer.{gives, answer_of};
 ghost use Rattle.ecss.specs.Kind.{Rules};
 ghost use Rattle.ecss_write.specs.Writer.{packet_by, Handed};
 ghost use Rattle.reserve.specs.Reserve.{finish_in, finished};
@@ -17,22 +17,21 @@ ghost use Rattle.tm_header.specs.Header.{time_limit, timed, tm};
 ghost use Rattle.tm_write.specs.Report.{report_by};
 ghost use Rattle.tm_write.specs.Creator.{header_with, PacketWrote};
 ghost use Rattle.tm_read.specs.Read.{start_in};
-ghost use Rattle.tm_strict.specs.Verdict.{verdict_answer};
-ghost use Rattle.tc_strict.specs.Verdict as Tc;
 ghost use Rattle.tm_demand3.specs.Rules.{NotBoth, report_for, Accepts};
 
 use ecss::CreatorConfig;
-use space_packet::{SizeResult, SpHeader};
+use space_packet::{PusError, SpHeader};
 use tc_header::TcForm;
+use tc_read::PusTcRecord;
 use tm_header::PusTmSecondaryHeader;
-use tm_reserved::{PusTmCreatorWithReservedSourceData, ReservedResult};
-use tm_strict::Verdict;
-use tm_write::{PusTmCreator, PusTmCreatorResult};
+use tm_read::PusTmRecord;
+use tm_reserved::PusTmCreatorWithReservedSourceData;
+use tm_write::PusTmCreator;
 
 // ---- theorems 1, 2, 7 and 8: octets are judged
 
-fn judged(time_len: u8, octets: &[u8]) -> Verdict
-    ensures { time_limit time_len ≡ gives tt → Exact (tm time_len) (report_for time_len) (verdict_answer result) octets.now }
+fn judged(time_len: u8, octets: &[u8]) -> Result<PusTmRecord, PusError>
+    ensures { time_limit time_len ≡ gives tt → Exact (tm time_len) (report_for time_len) (answer_of result) octets.now }
 {
     tm_strict::judge(time_len, octets)
 }
@@ -45,7 +44,7 @@ fn write(
     source_data: &[u8],
     buf: &mut [u8],
     table: bool,
-) -> SizeResult
+) -> Result<usize, PusError>
     ensures { PacketWrote creator time.now source_data.now buf.old result buf.new }
 {
     if table {
@@ -54,7 +53,11 @@ fn write(
     creator.write_to_slice_crc_no_table(time, source_data, buf)
 }
 
-fn finish(held: PusTmCreatorWithReservedSourceData, buf: &mut [u8], table: bool) -> SizeResult
+fn finish(
+    held: PusTmCreatorWithReservedSourceData,
+    buf: &mut [u8],
+    table: bool,
+) -> Result<usize, PusError>
     ensures { Wrote (finish_in (start_in held.time_len) held.held (length buf.old)) (finished held.held buf.old) buf.old result buf.new }
 {
     if table {
@@ -69,13 +72,13 @@ fn written(
     source_data: &[u8],
     buf: &mut [u8],
     table: bool,
-) -> Verdict
+) -> Result<PusTmRecord, PusError>
     ensures { time_limit creator.time_len ≡ gives tt → creator.has_checksum ≡ true
         → Rules (tm creator.time_len) (packet_by creator.sp_header (header_with creator time.now) source_data.now)
         → Fits (tm creator.time_len) source_data.now buf.old
         → Accepts creator.time_len result (packet_by creator.sp_header (header_with creator time.now) source_data.now) }
 {
-    write(creator, time, source_data, buf, table);
+    let _ = write(creator, time, source_data, buf, table);
     tm_strict::judge(creator.time_len(), buf)
 }
 
@@ -87,17 +90,14 @@ fn built(
     source_data: &[u8],
     buf: &mut [u8],
     table: bool,
-) -> Verdict
+) -> Result<PusTmRecord, PusError>
     ensures { time_limit time_len ≡ gives tt → Handed (tm time_len) (packet_by sp_header (timed sec_header time.now) source_data.now)
         → Fits (tm time_len) source_data.now buf.old
         → Accepts time_len result (made_of (report_by time_len) (packet_by sp_header (timed sec_header time.now) source_data.now)) }
 {
     let config = CreatorConfig::default();
-    let made = PusTmCreator::new(time_len, sp_header, sec_header, time, source_data, config);
-    match made {
-        PusTmCreatorResult::Err(e) => Verdict::Refused(e),
-        PusTmCreatorResult::Ok(creator) => written(creator, time, source_data, buf, table),
-    }
+    let creator = PusTmCreator::new(time_len, sp_header, sec_header, time, source_data, config)?;
+    written(creator, time, source_data, buf, table)
 }
 
 fn reserved(
@@ -108,12 +108,12 @@ fn reserved(
     source_data: &[u8],
     buf: &mut [u8],
     table: bool,
-) -> Verdict
+) -> Result<PusTmRecord, PusError>
     ensures { time_limit time_len ≡ gives tt → Handed (tm time_len) (packet_by sp_header (timed sec_header time.now) source_data.now)
         → Fits (tm time_len) source_data.now buf.old
         → Accepts time_len result (made_of (report_by time_len) (packet_by sp_header (timed sec_header time.now) source_data.now)) }
 {
-    let made = PusTmCreatorWithReservedSourceData::new(
+    let held = PusTmCreatorWithReservedSourceData::new(
         time_len,
         buf,
         sp_header,
@@ -121,50 +121,45 @@ fn reserved(
         time,
         source_data.len(),
         true,
-    );
-    match made {
-        ReservedResult::Err(e) => Verdict::Refused(e),
-        ReservedResult::Ok(held) => {
-            held.fill_source_data(source_data, buf);
-            finish(held, buf, table);
-            tm_strict::judge(time_len, buf)
-        }
-    }
+    )?;
+    let _ = held.fill_source_data(source_data, buf);
+    let _ = finish(held, buf, table);
+    tm_strict::judge(time_len, buf)
 }
 
 // ---- theorems 5 and 9: octets are judged, and so are the same with bits of them changed
 
-#[derive(Clone, Copy)]
+#[derive(Clone, Copy, PartialEq, Eq)]
 struct Verdicts {
-    sent: Verdict,
-    received: Verdict,
+    sent: Result<PusTmRecord, PusError>,
+    received: Result<PusTmRecord, PusError>,
 }
 
 fn changed(time_len: u8, sent: &[u8], received: &[u8]) -> Verdicts
     ensures { time_limit time_len ≡ gives tt
-        → RefusesChanged (verdict_answer result.sent) sent.now (verdict_answer result.received) received.now
-        × RefusesUpToThree (verdict_answer result.sent) sent.now (verdict_answer result.received) received.now }
+        → RefusesChanged (answer_of result.sent) sent.now (answer_of result.received) received.now
+        × RefusesUpToThree (answer_of result.sent) sent.now (answer_of result.received) received.now }
 {
-    let first = tm_strict::judge(time_len, sent);
-    let second = tm_strict::judge(time_len, received);
     Verdicts {
-        sent: first,
-        received: second,
+        sent: tm_strict::judge(time_len, sent),
+        received: tm_strict::judge(time_len, received),
     }
 }
 
 // ---- octets are judged as telemetry and as a telecommand, and not accepted as both
 
-#[derive(Clone, Copy)]
+#[derive(Clone, Copy, PartialEq, Eq)]
 struct AsBoth {
-    telemetry: Verdict,
-    command: tc_strict::Verdict,
+    telemetry: Result<PusTmRecord, PusError>,
+    command: Result<PusTcRecord, PusError>,
 }
 
+#[tactic(auto, using(crate::proofs::Demand3::never_both))]
 fn both_kinds(time_len: u8, form: TcForm, octets: &[u8]) -> AsBoth
-    ensures { NotBoth (verdict_answer result.telemetry) (Tc.verdict_answer result.command) }
+    ensures { NotBoth (answer_of result.telemetry) (answer_of result.command) }
 {
-    let telemetry = tm_strict::judge(time_len, octets);
-    let command = tc_strict::judge_in(form, octets);
-    AsBoth { telemetry, command }
+    AsBoth {
+        telemetry: tm_strict::judge(time_len, octets),
+        command: tc_strict::judge_in(form, octets),
+    }
 }

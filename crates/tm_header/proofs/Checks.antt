@@ -6,8 +6,8 @@ use mathlib.Core.Bool.{not}
 use mathlib.Core.List.{[]}
 use native.Mathlib.Omega.{arith}
 use lib.ListN.{length}
-use borrow.Author.Tests.{eqb-true, eq-eqb, ne_eqb, not-false, lt-ltb, le-ltb, ltb-false}
-use Rattle.space_packet.specs.Answer.{Answer, Numbers, Passed, gives, refuses, refusal, ◌then◌, in_buffer}
+use borrow.Author.Tests.{eqb-true, eq-eqb, not-false, lt-ltb, le-ltb, ltb-false}
+use Rattle.space_packet.specs.Answer.{Answer, Numbers, Passed, gives, refuses, refusal, in_buffer, and_then}
 use Rattle.space_packet.proofs.Answers.{never, refuse-yes, refuse-no, refuse-gives, range-passes, then-gives, gives_then}
 use Rattle.tm_header.specs.Header.{TmHeader, time_limit, time_check, tm, asked_time, asked_fields, asked_version, sec_checks}
 
@@ -31,27 +31,23 @@ time-passes t n = (
   λ h. gives_then _ _ tt ((limit-passes t).1 h.0) ∙ refuse-no _ _ _ (ap not (eq-eqb n t h.1)),
 )
 
-pub time-refused : (t n : ℕ) → time_limit t ≡ gives tt → (n ≡ t → ⊥) → time_check t n ≡ refuses (refusal 14 [])
-unfolding time_check
-time-refused t n p h = gives_then _ _ tt p ∙ refuse-yes _ _ _ (ap not (ne_eqb n t h))
-
 -- ---- what a write asks, by the answers of its checks and not by how the definition groups them
 
 module _ (t : ℕ) (x : TmHeader) (n : ℕ) where
   pub checks-time : (e : Numbers) → asked_time t x ≡ refuses e → sec_checks t x n ≡ refuses e
-  unfolding sec_checks ◌then◌
+  unfolding sec_checks and_then
   checks-time e p = rw p refl
 
   pub checks-fields : (e : Numbers) → asked_time t x ≡ gives tt → asked_fields x ≡ refuses e → sec_checks t x n ≡ refuses e
-  unfolding sec_checks ◌then◌
+  unfolding sec_checks and_then
   checks-fields e p q = rw (p, q) refl
 
   pub checks-no-room : (e : Numbers) → asked_time t x ≡ gives tt → asked_fields x ≡ gives tt → in_buffer n (tm t).size ≡ refuses e → sec_checks t x n ≡ refuses e
-  unfolding sec_checks ◌then◌
+  unfolding sec_checks and_then
   checks-no-room e p q r = rw (p, q, r) refl
 
   pub checks-version : (m : ℕ) → asked_time t x ≡ gives tt → asked_fields x ≡ gives tt → in_buffer n (tm t).size ≡ gives m → sec_checks t x n ≡ asked_version x
-  unfolding sec_checks ◌then◌
+  unfolding sec_checks and_then
   checks-version m p q r = rw (p, q, r) refl
 
   by-answers : (a b : Passed) (c : Answer ℕ) → asked_time t x ≡ a → asked_fields x ≡ b → in_buffer n (tm t).size ≡ c → sec_checks t x n ≡ gives tt

@@ -1,5 +1,4 @@
 pub mod Checks
 pub mod Laws
-pub mod Determined
 pub mod Rows
 pub mod Same

@@ -1,8 +1,8 @@
 -- The secondary header of a telemetry packet, over the length t of its time field in octets. ECSS-E-ST-70-41C, 7.4.3, telemetry
 -- packet secondary header.
 use Rattle.std.specs.Prelude.{ℕ, ◌+◌, ◌*◌, ◌%◌, ◌≤◌, ◌≡◌, Bool, not, ◌&&◌, List, [], ◌∷◌, ◌++◌, length, get_or, drop, eqb, ltb}
+use Rattle.space_packet.specs.Answer.{Answer, Passed, refusal, gives, refuse_if, ◌then◌, in_range, in_buffer}
 use Rattle.space_packet.specs.Bits.{bits, row, be16, word}
-use Rattle.space_packet.specs.Answer.{Answer, Passed, Kept, refusal, gives, refuses, refuse_if, ◌then◌, in_range, numbers_of, check_answer, in_buffer}
 use Rattle.space_packet.specs.declared.PacketType.TheVariants.{Tm}
 use Rattle.ecss.specs.Version.{version_number, version_is, message_at}
 use Rattle.ecss.specs.Kind.{Kind}
@@ -10,9 +10,6 @@ use Rattle.ecss.specs.declared.MessageTypeId.{MessageTypeId}
 use Rattle.ecss.specs.declared.PusVersion.{PusVersion}
 use Rattle.ecss.specs.declared.PusVersion.TheVariants.{PusC}
 use Rattle.tm_header.specs.declared.PusTmSecondaryHeader.{PusTmSecondaryHeader}
-use Rattle.tm_header.specs.declared.PusTmSecondaryHeaderSet.{PusTmSecondaryHeaderSet}
-use Rattle.tm_header.specs.declared.SecHeaderResult.{SecHeaderResult}
-use Rattle.tm_header.specs.declared.SecHeaderResult.TheVariants as S
 
 -- ---- the time field
 
@@ -114,14 +111,7 @@ unfoldable pub sec_read : ℕ → List ℕ → Answer PusTmSecondaryHeader
 sec_read t s =
     time_limit t then λ _. refuse_if (ltb (length s) (tm t).size) (refusal 2 (length s ∷ (tm t).size ∷ [])) (gives (fields_of s))
 
-abbrev pub sec_answer : SecHeaderResult → Answer PusTmSecondaryHeader
-sec_answer (S.Ok x) = gives x
-sec_answer (S.Err e) = refuses (numbers_of e)
-
--- a setter is refused for what is handed in only, and then hands back the old record
-abbrev pub sec_kept : PusTmSecondaryHeaderSet → Kept PusTmSecondaryHeader
-sec_kept r = record { passed = check_answer r.result; kept = r.sec_header }
-
+-- the header that the setter makes
 abbrev pub with_status : PusTmSecondaryHeader → ℕ → PusTmSecondaryHeader
 with_status x s = sec_from x.pus_version s x.message_type_id x.msg_counter x.dest_id
 

@@ -1,18 +1,18 @@
 // The secondary header of a telemetry packet after ECSS-E-ST-70-41C. Its time field is opaque and travels beside the record; its
 // length in octets, which the mission fixes, is handed to each call that needs it.
-#![tactic(auto)]
+#![tactic(auto, unfolding(space_packet::specs::Answer::and_then, space_packet::specs::Answer::set_if, space_packet::specs::Answer::refuse_if))]
 
 ghost use Rattle.std.specs.Prelude.{◌≡◌, [], ◌++◌, ◌+◌, ◌≤◌, length, take, drop};
-ghost use Rattle.space_packet.specs.Answer.{refusal, gives, refuses, set_if, check_answer};
+ghost use Rattle.space_packet.specs.Answer.{refusal, gives, refuses, set_if, answer_of, outcome};
 ghost use Rattle.space_packet.specs.Part.{beyond};
 ghost use Rattle.space_packet.specs.Wrote.{Wrote};
 ghost use Rattle.ecss.specs.Kind.{start_of, secondary_of, secondary_at};
 ghost use Rattle.ecss.specs.Version.{version_is};
 ghost use Rattle.ecss.specs.declared.PusVersion.TheVariants.{PusC};
-ghost use Rattle.tm_header.specs.Header.{time_limit, time_check, timed, field_octets, tm_octets, sec_from, tm, status_check, sec_checks, sec_write, sec_read, sec_answer, sec_kept, with_status, same_sec};
+ghost use Rattle.tm_header.specs.Header.{time_limit, time_check, timed, field_octets, tm_octets, sec_from, tm, status_check, sec_checks, sec_write, sec_read, with_status};
 
 use ecss::{MessageTypeId, PusError, PusVersion, frame};
-use space_packet::{ByteConversionError, CCSDS_HEADER_LEN, CheckResult, SizeResult};
+use space_packet::{ByteConversionError, CCSDS_HEADER_LEN};
 
 // Length of the secondary header before its time.
 pub const PUC_TM_MIN_SEC_HEADER_LEN: usize = 7;
@@ -28,6 +28,7 @@ fn min_sec_header_len() -> usize
     PUC_TM_MIN_SEC_HEADER_LEN
 }
 
+#[tactic(auto, unfolding(space_packet::specs::Answer::refuse_if, crate::specs::Header::time_limit))]
 fn max_time_len() -> usize
     ensures { (time_limit result ≡ gives tt) × (time_limit (result + 1) ≡ refuses (refusal 14 [])) }
 {
@@ -43,27 +44,26 @@ fn max_sec_header_len() -> usize
 // ---- the time field
 
 // 14 for a time length above 16.
-pub fn check_time_len(time_len: u8) -> CheckResult
-    ensures { check_answer result ≡ time_limit time_len }
+#[tactic(auto, unfolding(space_packet::specs::Answer::refuse_if, crate::specs::Header::time_limit))]
+pub fn check_time_len(time_len: u8) -> Result<(), PusError>
+    ensures { answer_of result ≡ time_limit time_len }
 {
     if MAX_TIME_LEN < time_len as usize {
-        return CheckResult::Err(PusError::TimeLength);
+        return Err(PusError::TimeLength);
     }
-    CheckResult::Ok
+    Ok(())
 }
 
 // What a write asks of a time field of `found` octets; 14, for another length than the mission's too.
-pub fn check_time(time_len: u8, found: usize) -> CheckResult
-    ensures { check_answer result ≡ time_check time_len found }
+#[tactic(auto, unfolding(space_packet::specs::Answer::and_then, space_packet::specs::Answer::refuse_if, crate::specs::Header::time_check))]
+pub fn check_time(time_len: u8, found: usize) -> Result<(), PusError>
+    ensures { answer_of result ≡ time_check time_len found }
 {
-    let c = check_time_len(time_len);
-    let CheckResult::Ok = c else {
-        return c;
-    };
+    check_time_len(time_len)?;
     if found != time_len as usize {
-        return CheckResult::Err(PusError::TimeLength);
+        return Err(PusError::TimeLength);
     }
-    CheckResult::Ok
+    Ok(())
 }
 
 // Length of the secondary header.
@@ -89,21 +89,21 @@ pub fn sec_header_part(time_len: u8, packet: &[u8]) -> &[u8]
 }
 
 // What a setter and a write ask of a time reference status: 7 where it is over four bits.
-pub fn check_status(sc_time_ref_status: u8) -> CheckResult
-    ensures { check_answer result ≡ status_check sc_time_ref_status }
+pub fn check_status(sc_time_ref_status: u8) -> Result<(), PusError>
+    ensures { answer_of result ≡ status_check sc_time_ref_status }
 {
     if 15 < sc_time_ref_status {
-        return CheckResult::Err(PusError::FieldRange {
+        return Err(PusError::FieldRange {
             place: 4,
             value: sc_time_ref_status as u16,
         });
     }
-    CheckResult::Ok
+    Ok(())
 }
 
 // ---- the secondary header
 
-#[derive(Clone, Copy)]
+#[derive(Clone, Copy, PartialEq, Eq)]
 pub struct PusTmSecondaryHeader {
     pub pus_version: PusVersion,
     // Four bits, whose meaning is the mission's.
@@ -111,19 +111,6 @@ pub struct PusTmSecondaryHeader {
     pub message_type_id: MessageTypeId,
     pub msg_counter: u16,
     pub dest_id: u16,
-}
-
-#[derive(Clone, Copy)]
-pub enum SecHeaderResult {
-    Ok(PusTmSecondaryHeader),
-    Err(PusError),
-}
-
-// What a setter hands back: the new header, or the old one with the refusal.
-#[derive(Clone, Copy)]
-pub struct PusTmSecondaryHeaderSet {
-    pub sec_header: PusTmSecondaryHeader,
-    pub result: CheckResult,
 }
 
 impl PusTmSecondaryHeader {
@@ -151,27 +138,13 @@ impl PusTmSecondaryHeader {
         }
     }
 
-    // 7 where it is over four bits.
-    pub fn set_sc_time_ref_status(self, sc_time_ref_status: u8) -> PusTmSecondaryHeaderSet
-        ensures { sec_kept result ≡ set_if (status_check sc_time_ref_status) self (with_status self sc_time_ref_status) }
+    // 7 where it is over four bits; the header then stays as it was.
+    pub fn set_sc_time_ref_status(&mut self, sc_time_ref_status: u8) -> Result<(), PusError>
+        ensures { outcome result self.new ≡ set_if (status_check sc_time_ref_status) self.old (with_status self.old sc_time_ref_status) }
     {
-        let result = check_status(sc_time_ref_status);
-        let CheckResult::Ok = result else {
-            return PusTmSecondaryHeaderSet {
-                sec_header: self,
-                result,
-            };
-        };
-        let pus_version = self.pus_version;
-        let message_type_id = self.message_type_id;
-        let sec_header = PusTmSecondaryHeader {
-            pus_version,
-            sc_time_ref_status,
-            message_type_id,
-            msg_counter: self.msg_counter,
-            dest_id: self.dest_id,
-        };
-        PusTmSecondaryHeaderSet { sec_header, result }
+        check_status(sc_time_ref_status)?;
+        self.sc_time_ref_status = sc_time_ref_status;
+        Ok(())
     }
 
     pub fn pus_version(self) -> PusVersion
@@ -217,57 +190,35 @@ impl PusTmSecondaryHeader {
     }
 
     // What a setter and a write ask of its fields: 7 where the time reference status is over four bits.
-    pub fn check_fields(self) -> CheckResult
-        ensures { check_answer result ≡ status_check self.sc_time_ref_status }
+    pub fn check_fields(self) -> Result<(), PusError>
+        ensures { answer_of result ≡ status_check self.sc_time_ref_status }
     {
         check_status(self.sc_time_ref_status)
     }
 
     // What a write asks of the version: 3 for another than C.
-    pub fn check_version(self) -> CheckResult
-        ensures { check_answer result ≡ version_is PusC self.pus_version }
+    pub fn check_version(self) -> Result<(), PusError>
+        ensures { answer_of result ≡ version_is PusC self.pus_version }
     {
-        let version = self.pus_version;
-        version.check(PusVersion::PusC)
-    }
-
-    // Whether every field is the same.
-    pub fn eq(self, other: PusTmSecondaryHeader) -> bool
-        ensures { result ≡ same_sec self other }
-    {
-        let v = self.pus_version;
-        let w = other.pus_version;
-        let m = self.message_type_id;
-        let n = other.message_type_id;
-        (m.type_id == n.type_id)
-            & ((m.subtype_id == n.subtype_id)
-                & ((self.msg_counter == other.msg_counter)
-                    & ((self.dest_id == other.dest_id)
-                        & ((self.sc_time_ref_status == other.sc_time_ref_status)
-                            & (v.raw_value() == w.raw_value())))))
+        self.pus_version.check(PusVersion::PusC)
     }
 
     // The header that octets are, of which there must be enough for the time too; 14, 2. The version is always C.
-    pub fn from_be_bytes(time_len: u8, s: &[u8]) -> SecHeaderResult
-        ensures { sec_answer result ≡ sec_read time_len s.now }
+    #[tactic(auto, unfolding(space_packet::specs::Answer::and_then, space_packet::specs::Answer::refuse_if, crate::specs::Header::sec_read, crate::specs::Header::fields_of))]
+    pub fn from_be_bytes(time_len: u8, s: &[u8]) -> Result<PusTmSecondaryHeader, PusError>
+        ensures { answer_of result ≡ sec_read time_len s.now }
     {
-        let c = check_time_len(time_len);
-        if let CheckResult::Err(e) = c {
-            return SecHeaderResult::Err(e);
-        }
+        check_time_len(time_len)?;
         let expected = sec_header_len(time_len);
         if s.len() < expected {
-            return SecHeaderResult::Err(PusError::ByteConversion(
-                ByteConversionError::FromSliceTooSmall {
-                    found: s.len(),
-                    expected,
-                },
-            ));
+            return Err(PusError::ByteConversion(ByteConversionError::FromSliceTooSmall {
+                found: s.len(),
+                expected,
+            }));
         }
-        let status = s[0] % 16;
-        SecHeaderResult::Ok(PusTmSecondaryHeader {
+        Ok(PusTmSecondaryHeader {
             pus_version: PusVersion::PusC,
-            sc_time_ref_status: status,
+            sc_time_ref_status: s[0] % 16,
             message_type_id: MessageTypeId::new(s[1], s[2]),
             msg_counter: space_packet::word_at(s, 3),
             dest_id: space_packet::word_at(s, 5),
@@ -275,40 +226,36 @@ impl PusTmSecondaryHeader {
     }
 
     // What a write with that time into `room` octets asks; 14, 7, 1, 3.
-    fn check(self, time_len: u8, time: &[u8], room: usize) -> CheckResult
-        ensures { check_answer result ≡ sec_checks time_len (timed self time.now) room }
+    #[tactic(auto, unfolding(space_packet::specs::Answer::and_then, space_packet::specs::Answer::refuse_if, crate::specs::Header::sec_checks))]
+    fn check(self, time_len: u8, time: &[u8], room: usize) -> Result<(), PusError>
+        ensures { answer_of result ≡ sec_checks time_len (timed self time.now) room }
     {
-        let c = check_time(time_len, time.len());
-        let CheckResult::Ok = c else {
-            return c;
-        };
-        let fields = self.check_fields();
-        let CheckResult::Ok = fields else {
-            return fields;
-        };
+        check_time(time_len, time.len())?;
+        self.check_fields()?;
         let expected = sec_header_len(time_len);
         if room < expected {
-            return CheckResult::Err(PusError::ByteConversion(
-                ByteConversionError::ToSliceTooSmall {
-                    found: room,
-                    expected,
-                },
-            ));
+            return Err(PusError::ByteConversion(ByteConversionError::ToSliceTooSmall {
+                found: room,
+                expected,
+            }));
         }
         self.check_version()
     }
 
     // Writes the seven octets and the time behind them; 14, 7, 1, 3.
-    pub fn write_to_slice(self, time_len: u8, time: &[u8], buf: &mut [u8]) -> SizeResult
+    #[tactic(auto, unfolding(space_packet::specs::Answer::and_then, crate::specs::Header::sec_write, crate::specs::Header::tm_octets))]
+    pub fn write_to_slice(
+        self,
+        time_len: u8,
+        time: &[u8],
+        buf: &mut [u8],
+    ) -> Result<usize, PusError>
         ensures { Wrote (sec_write time_len (timed self time.now) (length buf.old)) (tm_octets (timed self time.now)) buf.old result buf.new }
     {
-        let c = self.check(time_len, time, buf.len());
-        if let CheckResult::Err(e) = c {
-            return SizeResult::Err(e);
-        }
+        self.check(time_len, time, buf.len())?;
         self.put(buf);
         put_time(time, buf);
-        SizeResult::Ok(sec_header_len(time_len))
+        Ok(sec_header_len(time_len))
     }
 
     // Writes the seven octets before the time.
@@ -316,8 +263,7 @@ impl PusTmSecondaryHeader {
         requires { (self.sc_time_ref_status ≤ 15) × (7 ≤ length buf.old) }
         ensures { buf.new ≡ field_octets self ++ drop 7 buf.old }
     {
-        let version = self.pus_version;
-        buf[0] = version.raw_value() * 16 + self.sc_time_ref_status;
+        buf[0] = self.pus_version.raw_value() * 16 + self.sc_time_ref_status;
         buf[1] = self.message_type_id.type_id;
         buf[2] = self.message_type_id.subtype_id;
         buf[3] = (self.msg_counter / 256) as u8;
@@ -332,5 +278,5 @@ fn put_time(time: &[u8], buf: &mut [u8])
     requires { 7 + length time.now ≤ length buf.old }
     ensures { buf.new ≡ take 7 buf.old ++ time.now ++ drop (7 + length time.now) buf.old }
 {
-    ecss_write::fill(&mut buf[PUC_TM_MIN_SEC_HEADER_LEN..], time);
+    let _ = ecss_write::fill(&mut buf[PUC_TM_MIN_SEC_HEADER_LEN..], time);
 }

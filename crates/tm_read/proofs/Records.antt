@@ -7,17 +7,17 @@ use native.Mathlib.Omega.{arith}
 use lib.ListN.{length, take, drop, length-drop}
 use lib.Seq.{take-add, drop_at, drop-drop, length-take-le}
 use borrow.Author.Tests.{le-ltb}
+use Rattle.std.specs.Prelude.{Option}
 use Rattle.space_packet.specs.Answer.{Answer, Numbers, gives, refuses}
 use Rattle.space_packet.specs.Header.{header_read, read_header}
 use Rattle.space_packet.specs.declared.SpacePacketHeader.{SpacePacketHeader}
 use Rattle.space_packet.proofs.Answers.{gives-inj, refuse-no, gives_then, then-refused}
 use Rattle.ecss.specs.Frame.{trailer, Framed, crc_taken, raw_part, data_part}
 use Rattle.ecss.specs.Kind.{secondary_of}
-use Rattle.ecss.proofs.After.{frame-given, frame-checked, reported, primary-read, secondary-length}
+use Rattle.ecss.proofs.After.{frame-given, checked-given, frame-checked, reported, primary-read, secondary-length}
 use Rattle.tm_header.specs.Header.{time_limit, sec_read, fields_of, time_of, tm}
 use Rattle.tm_header.specs.declared.PusTmSecondaryHeader.{PusTmSecondaryHeader}
 use Rattle.tm_read.specs.Read.{start_in, record_in, frame_in, checked_frame, read_in, checked_in, time_part, timestamp_in, source_data_in, raw_data_in}
-use Rattle.ecss.specs.declared.Crc16.{Crc16}
 use Rattle.tm_read.specs.declared.PusTmRecord.{PusTmRecord}
 
 -- ---- what a reader finds in octets that have room for both headers
@@ -35,7 +35,7 @@ both_read t s l b n w i =
     let h : start_in t ≤ length s = omega (arith, w.room, w.fits) in
     (primary-read s (omega (arith, h)), ap (sec_read t) i ∙ secondary-read t s h w.good)
 
-pub record-read : (t : ℕ) (s l : List ℕ) (b : Bool) (n : ℕ) (h : SpacePacketHeader) (x : PusTmSecondaryHeader) (a e : ℕ) (k : Crc16)
+pub record-read : (t : ℕ) (s l : List ℕ) (b : Bool) (n : ℕ) (h : SpacePacketHeader) (x : PusTmSecondaryHeader) (a e : ℕ) (k : Option ℕ)
     → Framed (time_limit t) (start_in t) b s n
     → header_read s ≡ gives h → l ≡ secondary_of (tm t).size s → sec_read t l ≡ gives x → a ≡ start_in t → e ≡ n - trailer b → k ≡ crc_taken b s n
     → record { sp_header = h; sec_header = x; start = a; end = e; total = n; crc16 = k } ≡ record_in t s b n
@@ -45,6 +45,9 @@ record-read t s l b n h x a e k w p i q start end crc =
     let hs = gives-inj h (read_header s) (sym p ∙ r.0) in
     let xs = gives-inj x (fields_of (secondary_of (tm t).size s)) (sym q ∙ r.1) in
     λ j. record { sp_header = hs j; sec_header = xs j; start = start j; end = end j; total = n; crc16 = crc j }
+
+-- what the check cites of a total that was given
+pub ruleset framed = (frame-given, checked-given)
 
 -- ---- what was read, and the parts
 

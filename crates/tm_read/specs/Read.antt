@@ -1,13 +1,11 @@
 -- Telemetry read, over the length t of its time: what is reported of octets, and the parts handed out.
 use Rattle.std.specs.Prelude.{ℕ, ◌-◌, Bool, true, List, []}
-use Rattle.space_packet.specs.Answer.{Answer, gives, refuses, ◌then◌, numbers_of}
+use Rattle.space_packet.specs.Answer.{Answer, gives, refuses, ◌then◌}
 use Rattle.space_packet.specs.Header.{read_header}
 use Rattle.ecss.specs.Frame.{trailer, frame_after, checked_after, crc_taken, raw_part, data_part, data_at}
 use Rattle.ecss.specs.Kind.{secondary_of, start_of}
 use Rattle.tm_header.specs.Header.{time_limit, fields_of, time_of, tm}
 use Rattle.tm_read.specs.declared.PusTmRecord.{PusTmRecord}
-use Rattle.tm_read.specs.declared.PusTmRecordResult.{PusTmRecordResult}
-use Rattle.tm_read.specs.declared.PusTmRecordResult.TheVariants as R
 
 -- where the data starts
 abbrev pub start_in : ℕ → ℕ
@@ -23,10 +21,6 @@ record_in t s b n = record {
   total = n;
   crc16 = crc_taken b s n;
 }
-
-abbrev pub record_answer : PusTmRecordResult → Answer PusTmRecord
-record_answer (R.Ok r) = gives r
-record_answer (R.Err e) = refuses (numbers_of e)
 
 -- the total of the packet that octets begin with, for the choice of checksum: 14, 2; and where it is compared: 14, 2, 4
 abbrev pub frame_in : ℕ → List ℕ → Bool → Answer ℕ

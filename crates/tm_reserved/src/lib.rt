@@ -1,50 +1,27 @@
 // Telemetry whose source data is filled in its buffer, after ECSS-E-ST-70-41C.
-#![tactic(auto)]
+#![tactic(auto, unfolding(space_packet::specs::Answer::and_then))]
 
 ghost use Rattle.std.specs.Prelude.{◌≡◌, length};
-ghost use Rattle.space_packet.specs.Answer.{size_answer, gives, ◌then◌};
+ghost use Rattle.space_packet.specs.Answer.{answer_of};
 ghost use Rattle.space_packet.specs.Part.{beyond};
 ghost use Rattle.space_packet.specs.Wrote.{Wrote};
 ghost use Rattle.ecss.specs.Kind.{start_of};
-ghost use Rattle.reserve.specs.Reserve.{data_len_of, bounds_of, bounds_answer, within, begins_at, fill_in, filled_by, finish_in, finished, bare_in};
+ghost use Rattle.reserve.specs.Reserve.{data_len_of, bounds_of, within, begins_at, fill_in, filled_by, finish_in, finished, bare_in};
 ghost use Rattle.tm_header.specs.Header.{timed, tm};
-ghost use Rattle.tm_reserved.specs.Reserved.{reservation_of, reserve_of, reserved_answer, reserved_left};
+ghost use Rattle.tm_reserved.specs.Reserved.{reserve_of, reserved_left};
 
 use ecss::{PusError, frame};
 use ecss_write::packet;
-use reserve::{BoundsResult, Reservation};
-use space_packet::{CCSDS_HEADER_LEN, PacketType, SizeResult, SpHeader};
-use tm_header::{MAX_SEC_HEADER_LEN, PUC_TM_MIN_SEC_HEADER_LEN, PusTmSecondaryHeader};
+use reserve::{Bounds, Reservation};
+use space_packet::{PacketType, SpHeader};
+use tm_header::{MAX_SEC_HEADER_LEN, PusTmSecondaryHeader};
 
 // A reservation by value, with the mission's time length; the buffer is lent again to each call. Finishing and borrowing are refused
 // with 8, then 1, and the data's length with 8 alone; 8 too where the reservation does not start behind that time.
-#[derive(Clone, Copy)]
+#[derive(Clone, Copy, PartialEq, Eq)]
 pub struct PusTmCreatorWithReservedSourceData {
     held: Reservation,
     time_len: u8,
-}
-
-#[derive(Clone, Copy)]
-pub enum ReservedResult {
-    Ok(PusTmCreatorWithReservedSourceData),
-    Err(PusError),
-}
-
-// The reservation of the total that a buffer has room for.
-fn reservation(time_len: u8, reserved: SizeResult, has_checksum: bool) -> ReservedResult
-    ensures { reserved_answer result ≡ (size_answer reserved then λ total. gives (reservation_of time_len total has_checksum)) }
-{
-    match reserved {
-        SizeResult::Err(e) => ReservedResult::Err(e),
-        SizeResult::Ok(total) => ReservedResult::Ok(PusTmCreatorWithReservedSourceData {
-            held: Reservation {
-                start: CCSDS_HEADER_LEN + (PUC_TM_MIN_SEC_HEADER_LEN + time_len as usize),
-                total,
-                has_checksum,
-            },
-            time_len,
-        }),
-    }
 }
 
 impl PusTmCreatorWithReservedSourceData {
@@ -57,27 +34,40 @@ impl PusTmCreatorWithReservedSourceData {
         time: &[u8],
         source_data_len: usize,
         has_checksum: bool,
-    ) -> ReservedResult
-        ensures { (reserved_answer result ≡ reserve_of time_len sp_header (timed sec_header time.now) source_data_len has_checksum (length buf.old)) × (buf.new ≡ reserved_left time_len sp_header (timed sec_header time.now) source_data_len has_checksum buf.old) }
+    ) -> Result<PusTmCreatorWithReservedSourceData, PusError>
+        ensures { (answer_of result ≡ reserve_of time_len sp_header (timed sec_header time.now) source_data_len has_checksum (length buf.old)) × (buf.new ≡ reserved_left time_len sp_header (timed sec_header time.now) source_data_len has_checksum buf.old) }
     {
-        let header = packet::as_type(sp_header, PacketType::Tm);
         let mut sec = [0u8; MAX_SEC_HEADER_LEN];
-        sec_header.write_to_slice(time_len, time, &mut sec);
-        let reserved = packet::reserve(
+        let _ = sec_header.write_to_slice(time_len, time, &mut sec);
+        let total = packet::reserve(
             tm_write::asks(time_len, sec_header, time),
-            header,
+            packet::as_type(sp_header, PacketType::Tm),
             frame::front(&sec, tm_header::sec_header_len(time_len)),
             source_data_len,
             has_checksum,
             buf,
-        );
-        reservation(time_len, reserved, has_checksum)
+        )?;
+        Ok(PusTmCreatorWithReservedSourceData {
+            held: Reservation {
+                start: tm_header::min_len_without_source_data(time_len),
+                total,
+                has_checksum,
+            },
+            time_len,
+        })
     }
 
     pub fn time_len(self) -> u8
         ensures { result ≡ self.time_len }
     {
         self.time_len
+    }
+
+    // The octet at which the data of this time length starts.
+    fn start(self) -> usize
+        ensures { result ≡ start_of (tm self.time_len) }
+    {
+        tm_header::min_len_without_source_data(self.time_len)
     }
 
     // The length of the whole packet.
@@ -88,22 +78,17 @@ impl PusTmCreatorWithReservedSourceData {
     }
 
     // The length of the data; 8.
-    pub fn source_data_len(self) -> SizeResult
-        ensures { size_answer result ≡ data_len_of (start_of (tm self.time_len)) self.held }
+    pub fn source_data_len(self) -> Result<usize, PusError>
+        ensures { answer_of result ≡ data_len_of (start_of (tm self.time_len)) self.held }
     {
-        let held = self.held;
-        held.data_len(CCSDS_HEADER_LEN + (PUC_TM_MIN_SEC_HEADER_LEN + self.time_len as usize))
+        self.held.data_len(self.start())
     }
 
     // Where the data lies in a buffer of `found` octets.
-    pub fn source_data_bounds(self, found: usize) -> BoundsResult
-        ensures { bounds_answer result ≡ bounds_of (start_of (tm self.time_len)) self.held found }
+    pub fn source_data_bounds(self, found: usize) -> Result<Bounds, PusError>
+        ensures { answer_of result ≡ bounds_of (start_of (tm self.time_len)) self.held found }
     {
-        let held = self.held;
-        held.bounds(
-            CCSDS_HEADER_LEN + (PUC_TM_MIN_SEC_HEADER_LEN + self.time_len as usize),
-            found,
-        )
+        self.held.bounds(self.start(), found)
     }
 
     // The data, to be read; the empty part where it is refused.
@@ -111,11 +96,7 @@ impl PusTmCreatorWithReservedSourceData {
         ensures result_value { result.now ≡ within (bounds_of (start_of (tm self.time_len)) self.held (length buf.now)) buf.now }
         ensures ref_ptr_value { result.ref_ptr ≡ beyond (begins_at (bounds_of (start_of (tm self.time_len)) self.held (length buf.now))) buf.entry.ref_ptr }
     {
-        let held = self.held;
-        held.part(
-            CCSDS_HEADER_LEN + (PUC_TM_MIN_SEC_HEADER_LEN + self.time_len as usize),
-            buf,
-        )
+        self.held.part(self.start(), buf)
     }
 
     // The data, to be written; the empty part where it is refused. The buffer is lent on with the part, so no contract can
@@ -124,50 +105,33 @@ impl PusTmCreatorWithReservedSourceData {
         ensures result_value { result.now ≡ within (bounds_of (start_of (tm self.time_len)) self.held (length buf.old)) buf.old }
         ensures ref_ptr_value { result.ref_ptr ≡ beyond (begins_at (bounds_of (start_of (tm self.time_len)) self.held (length buf.old))) buf.entry.ref_ptr }
     {
-        let held = self.held;
-        held.part_mut(
-            CCSDS_HEADER_LEN + (PUC_TM_MIN_SEC_HEADER_LEN + self.time_len as usize),
-            buf,
-        )
+        self.held.part_mut(self.start(), buf)
     }
 
     // Fills the data in from its start; the octets before it and after it stay as they are.
-    pub fn fill_source_data(self, data: &[u8], buf: &mut [u8]) -> SizeResult
-        ensures { (size_answer result ≡ fill_in (start_of (tm self.time_len)) self.held (length buf.old) (length «data».now)) × (buf.new ≡ filled_by (fill_in (start_of (tm self.time_len)) self.held (length buf.old) (length «data».now)) (start_of (tm self.time_len)) «data».now buf.old) }
+    pub fn fill_source_data(self, data: &[u8], buf: &mut [u8]) -> Result<usize, PusError>
+        ensures { (answer_of result ≡ fill_in (start_of (tm self.time_len)) self.held (length buf.old) (length «data».now)) × (buf.new ≡ filled_by (fill_in (start_of (tm self.time_len)) self.held (length buf.old) (length «data».now)) (start_of (tm self.time_len)) «data».now buf.old) }
     {
-        let held = self.held;
-        held.fill(
-            CCSDS_HEADER_LEN + (PUC_TM_MIN_SEC_HEADER_LEN + self.time_len as usize),
-            data,
-            buf,
-        )
+        self.held.fill(self.start(), data, buf)
     }
 
     // Writes the checksum, where there is one, and answers the total.
-    pub fn finalize(self, buf: &mut [u8]) -> SizeResult
+    pub fn finalize(self, buf: &mut [u8]) -> Result<usize, PusError>
         ensures { Wrote (finish_in (start_of (tm self.time_len)) self.held (length buf.old)) (finished self.held buf.old) buf.old result buf.new }
     {
-        let held = self.held;
-        held.finalize(
-            CCSDS_HEADER_LEN + (PUC_TM_MIN_SEC_HEADER_LEN + self.time_len as usize),
-            buf,
-        )
+        self.held.finalize(self.start(), buf)
     }
 
-    pub fn finalize_checksum_no_table(self, buf: &mut [u8]) -> SizeResult
+    pub fn finalize_checksum_no_table(self, buf: &mut [u8]) -> Result<usize, PusError>
         ensures { Wrote (finish_in (start_of (tm self.time_len)) self.held (length buf.old)) (finished self.held buf.old) buf.old result buf.new }
     {
         self.finalize(buf)
     }
 
     // Writes nothing, and answers the total less the checksum's place.
-    pub fn finalize_no_checksum(self, buf: &[u8]) -> SizeResult
-        ensures { size_answer result ≡ bare_in (start_of (tm self.time_len)) self.held (length buf.now) }
+    pub fn finalize_no_checksum(self, buf: &[u8]) -> Result<usize, PusError>
+        ensures { answer_of result ≡ bare_in (start_of (tm self.time_len)) self.held (length buf.now) }
     {
-        let held = self.held;
-        held.finalize_no_checksum(
-            CCSDS_HEADER_LEN + (PUC_TM_MIN_SEC_HEADER_LEN + self.time_len as usize),
-            buf,
-        )
+        self.held.finalize_no_checksum(self.start(), buf)
     }
 }

@@ -1,25 +1,21 @@
 -- The telemetry creator: construction, the length, and what is written. The octets l of its time, and its data d or their number n,
 -- travel beside it.
-use Rattle.std.specs.Prelude.{ℕ, Bool, ◌&&◌, List, eqb, length}
+use Rattle.std.specs.Prelude.{ℕ, Bool, ◌&&◌, List, eqb, length, Option, Result}
+use Rattle.space_packet.specs.Answer.{Answer, Kept, gives, ◌then◌}
+use Rattle.space_packet.specs.declared.PusError.{PusError}
 use Rattle.space_packet.specs.Bits.{flag_number}
-use Rattle.space_packet.specs.Answer.{Answer, Kept, gives, refuses, ◌then◌, numbers_of, check_answer}
 use Rattle.space_packet.specs.Header.{same_header}
 use Rattle.space_packet.specs.Wrote.{Wrote}
 use Rattle.space_packet.specs.declared.SpacePacketHeader.{SpacePacketHeader}
-use Rattle.space_packet.specs.declared.SizeResult.{SizeResult}
 use Rattle.ecss.specs.Frame.{same_octets}
 use Rattle.ecss.specs.Kind.{start_of}
 use Rattle.ecss.specs.declared.CreatorConfig.{CreatorConfig}
-use Rattle.ecss.specs.declared.Crc16.{Crc16}
 use Rattle.ecss_write.specs.Write.{machine_total, checksum_with, kept_with}
 use Rattle.ecss_write.specs.Writer.{content_by, octets_by, new_by, afresh_by, write_by, bare_by, own_by}
 use Rattle.tm_header.specs.Header.{TmHeader, timed, tm, time_check, same_sec}
 use Rattle.tm_header.specs.declared.PusTmSecondaryHeader.{PusTmSecondaryHeader}
 use Rattle.tm_write.specs.Report.{report_by}
 use Rattle.tm_write.specs.declared.PusTmCreator.{PusTmCreator}
-use Rattle.tm_write.specs.declared.PusTmCreatorSet.{PusTmCreatorSet}
-use Rattle.tm_write.specs.declared.PusTmCreatorResult.{PusTmCreatorResult}
-use Rattle.tm_write.specs.declared.PusTmCreatorResult.TheVariants as R
 
 abbrev pub creator_of : ℕ → SpacePacketHeader → PusTmSecondaryHeader → Bool → PusTmCreator
 creator_of t h x b = record { sp_header = h; sec_header = x; has_checksum = b; time_len = t }
@@ -43,14 +39,6 @@ new_of t h x l n config =
     new_by (report_by t) h (timed x l) config.has_checksum config.set_ccsds_len n
     then λ g. gives (creator_of t g x config.has_checksum)
 
-abbrev pub creator_answer : PusTmCreatorResult → Answer PusTmCreator
-creator_answer (R.Ok c) = gives c
-creator_answer (R.Err e) = refuses (numbers_of e)
-
--- an edit is refused for what is handed in only, and then hands back the old record
-abbrev pub creator_kept : PusTmCreatorSet → Kept PusTmCreator
-creator_kept r = record { passed = check_answer r.result; kept = r.creator }
-
 abbrev pub with_header : PusTmCreator → SpacePacketHeader → PusTmCreator
 with_header c h = creator_of c.time_len h c.sec_header c.has_checksum
 
@@ -70,7 +58,7 @@ abbrev pub own_checksum : PusTmCreator → List ℕ → List ℕ → Answer ℕ
 own_checksum c l d = own_by (report_by c.time_len) c.sp_header (header_with c l) d
 
 -- the checksum that is written: 14, then none, or its own
-abbrev pub checksum_of : PusTmCreator → List ℕ → List ℕ → Answer Crc16
+abbrev pub checksum_of : PusTmCreator → List ℕ → List ℕ → Answer (Option ℕ)
 checksum_of c l d = time_check c.time_len (length l) then λ _. checksum_with c.has_checksum (own_checksum c l d)
 
 -- writing into a buffer of m octets: 14, 7, 6 for the machine size, 1, 3
@@ -82,11 +70,11 @@ abbrev pub bare_of : PusTmCreator → List ℕ → ℕ → ℕ → Answer ℕ
 bare_of c l n m = bare_by (report_by c.time_len) c.sp_header (header_with c l) c.has_checksum n m
 
 -- the packet stands over the first octets of the buffer, and its length is answered; refused, the buffer is as it was
-abbrev pub PacketWrote : PusTmCreator → List ℕ → List ℕ → List ℕ → SizeResult → List ℕ → Type 0
+abbrev pub PacketWrote : PusTmCreator → List ℕ → List ℕ → List ℕ → Result ℕ PusError → List ℕ → Type 0
 PacketWrote c l d before r after = Wrote (write_of c l (length d) (length before)) (octets_for c l d) before r after
 
 -- and without the checksum, whose places are left as they were
-abbrev pub ContentWrote : PusTmCreator → List ℕ → List ℕ → List ℕ → SizeResult → List ℕ → Type 0
+abbrev pub ContentWrote : PusTmCreator → List ℕ → List ℕ → List ℕ → Result ℕ PusError → List ℕ → Type 0
 ContentWrote c l d before r after = Wrote (bare_of c l (length d) (length before)) (content_for c l d) before r after
 
 -- the mission's time length, the headers, the time, the data and the choice of checksum are the same

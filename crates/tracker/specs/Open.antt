@@ -1,14 +1,11 @@
 -- The tracker: what it holds of the commands that are open, and what each call answers and leaves.
-use Rattle.std.specs.Prelude.{ℕ, ◌≤◌, ◌≡◌, Bool, false, ◌||◌, List, [], ◌∷◌, ◌++◌, length, take, drop, get_or, replicate, eqb, ltb}
+use Rattle.std.specs.Prelude.{ℕ, Bool, false, ◌||◌, List, [], ◌∷◌, ◌++◌, length, take, drop, get_or, replicate, eqb, ltb, Option, Some, None}
+use Rattle.space_packet.specs.Answer.{Answer, Kept, gives, refuses, set_if}
 use Rattle.space_packet.specs.Bits.{pick}
-use Rattle.space_packet.specs.Answer.{Answer, Kept, gives, refuses, set_if, check_answer}
 use Rattle.tracker.specs.Reports.{request_of, asked_of, asks_nothing, is_acceptance, is_start, is_progress, ends, all_come, Report, report_in}
 use Rattle.tracker.specs.Refusals.{among, report_check, send_check}
 use Rattle.tracker.specs.declared.Entry.{Entry}
 use Rattle.tracker.specs.declared.Tracker.{Tracker}
-use Rattle.tracker.specs.declared.TrackerSet.{TrackerSet}
-use Rattle.tracker.specs.declared.OpenRequest.{OpenRequest}
-use Rattle.tracker.specs.declared.OpenRequest.TheVariants.{Some, None}
 
 -- ---- what is held
 
@@ -22,13 +19,6 @@ new_tracker = record { entries = replicate 32 (entry_of 0 0); count = 0 }
 -- the open commands, in the order of their sending
 abbrev pub entries_of : Tracker → List Entry
 entries_of t = take t.count t.entries
-
--- n places are in use, of the 32
-pub record Used (t : Tracker) (n : ℕ) : Type 0 where
-  pub first : take n t.entries ≡ entries_of t
-  pub is : n ≡ length (entries_of t)
-  pub fits : n ≤ 32
-  pub places : length t.entries ≡ 32
 
 -- the tracker that holds just these in its first places; the others are as they were
 unfoldable pub holding : Tracker → List Entry → Tracker
@@ -46,7 +36,7 @@ abbrev pub is_open : Tracker → ℕ → Bool
 is_open t id = among id (open_of t)
 
 -- the i-th of requests, from 0 on
-abbrev pub request_at : List ℕ → ℕ → OpenRequest
+abbrev pub request_at : List ℕ → ℕ → Option ℕ
 request_at l i = pick (ltb i (length l)) (Some (get_or l i 0)) None
 
 -- ---- what a report leaves
@@ -92,6 +82,3 @@ opened t id asked = pick (asks_nothing asked) t (holding t (entries_of t ++ (ent
 -- a command: the strict verdict's refusals, 17, 18
 unfoldable pub send_of : Tracker → List ℕ → Kept Tracker
 send_of t s = set_if (send_check (open_of t) s) t (opened t (request_of s) (asked_of s))
-
-abbrev pub tracker_kept : TrackerSet → Kept Tracker
-tracker_kept r = record { passed = check_answer r.result; kept = r.tracker }

@@ -1,17 +1,20 @@
 // The tracker of open commands: which of those sent are still open, by the reports of service 1 that have come.
-#![tactic(auto)]
+#![tactic(auto, using(crate::proofs::Checks::sent, crate::proofs::Entries::held), unfolding(space_packet::specs::Answer::and_then, space_packet::specs::Answer::set_if, space_packet::specs::Answer::refuse_if, crate::specs::Reports::ends, crate::specs::Reports::report_from, crate::specs::Reports::report_in, crate::specs::Refusals::report_check, crate::specs::Refusals::open_check, crate::specs::Refusals::send_check, crate::specs::Open::report_to, crate::specs::Open::opened, crate::specs::Open::send_of))]
 
 ghost use Rattle.std.specs.Prelude.{◌≡◌, [], ◌∷◌, ◌++◌, ◌<◌, ◌≤◌, length};
-ghost use Rattle.space_packet.specs.Answer.{set_if};
-ghost use Rattle.tracker.specs.Reports.{request_of, either, ends, counted, all_come, report_length, is_report, report_from};
+ghost use Rattle.space_packet.specs.Answer.{set_if, outcome};
+ghost use Rattle.tracker.specs.Reports.{request_of, ends, counted, all_come, report_length, is_report, report_from};
 ghost use Rattle.tracker.specs.Refusals.{open_check};
-ghost use Rattle.tracker.specs.Open.{Used, noted, closes, left_of, left, new_tracker, entries_of, open_of, holding, is_open, request_at, opened, send_of, report_to, report_of, tracker_kept};
+ghost use Rattle.tracker.specs.Open.{entry_of, noted, closes, left_of, left, new_tracker, entries_of, open_of, holding, is_open, request_at, opened, send_of, report_to, report_of};
 
-use ecss::PusError;
-use space_packet::CheckResult;
+use ecss::MessageTypeId;
+use space_packet::PusError;
+
+// How many commands can be open.
+const MAX_OPEN: usize = 32;
 
 // A command that is open: its request ID, its acknowledgement bits, and the kinds of report that have come.
-#[derive(Clone, Copy)]
+#[derive(Clone, Copy, PartialEq, Eq)]
 pub struct Entry {
     id: u32,
     asked: u8,
@@ -20,24 +23,12 @@ pub struct Entry {
     progress: bool,
 }
 
-// The open commands are the first `count` entries, in the order of their sending.
+// The open commands are the first `count` entries, in the order of their sending: an array and a count, as there is no heap and a tracker
+// is copied. What stands behind them is left over, and part of `holding`; so no `==` is derived, which would compare that too.
 #[derive(Clone, Copy)]
 pub struct Tracker {
-    entries: [Entry; 32],
+    entries: [Entry; MAX_OPEN],
     count: usize,
-}
-
-// What a send or a report answers, and the tracker after it: the old one where it was refused.
-#[derive(Clone, Copy)]
-pub struct TrackerSet {
-    pub tracker: Tracker,
-    pub result: CheckResult,
-}
-
-#[derive(Clone, Copy)]
-pub enum OpenRequest {
-    Some(u32),
-    None,
 }
 
 // ---- commands and reports
@@ -49,112 +40,89 @@ pub fn request_of(s: &[u8]) -> u32
     space_packet::word_at(s, 0) as u32 * 65536 + space_packet::word_at(s, 2) as u32
 }
 
-// The kind with these two subtypes.
-fn either(subtype: u8, success: u8, failure: u8) -> bool
-    ensures { result ≡ either subtype success failure }
-{
-    if subtype == success {
-        return true;
-    }
-    subtype == failure
-}
-
 // Completion, and a failure of acceptance or start, close a command whatever it asked for.
 fn ends(subtype: u8) -> bool
     ensures { result ≡ ends subtype }
 {
-    match subtype {
-        2 => true,
-        4 => true,
-        7 => true,
-        8 => true,
-        _ => false,
-    }
+    matches!(subtype, 2 | 4 | 7 | 8)
 }
 
 // 1 where a kind has come and was asked for.
 fn counted(come: bool, asked: u8, weight: u8) -> u32
     requires { 0 < weight }
-    ensures { (result ≡ counted come asked weight) × (result ≤ 1) }
+    ensures value { result ≡ counted come asked weight }
+    ensures most { result ≤ 1 }
 {
-    if come {
-        if asked / weight % 2 == 1 {
-            return 1;
-        }
-    }
-    0
-}
-
-// Completion is not among the kinds asked for, and as many have come as were asked for.
-fn all_come(asked: u8, acceptance: bool, start: bool, progress: bool) -> bool
-    ensures { result ≡ all_come asked acceptance start progress }
-{
-    if asked % 2 == 1 {
-        return false;
-    }
-    let come = counted(acceptance, asked, 8)
-        + counted(start, asked, 4)
-        + counted(progress, asked, 2);
-    come == u8::count_ones(asked)
+    u32::from(come && asked / weight % 2 == 1)
 }
 
 // The octets of a report's data.
 fn report_length(subtype: u8) -> usize
     ensures { result ≡ report_length subtype }
 {
-    if subtype == 5 {
-        return 5;
+    match subtype {
+        5 => 5,
+        6 => 7,
+        _ if subtype % 2 == 1 => 4,
+        _ => 6,
     }
-    if subtype == 6 {
-        return 7;
-    }
-    if subtype % 2 == 1 {
-        return 4;
-    }
-    6
 }
 
 // A report of service 1, with just the data of its subtype.
-fn is_report(service: u8, subtype: u8, data: &[u8]) -> bool
-    ensures { result ≡ is_report service subtype «data».now }
+fn is_report(message: MessageTypeId, data: &[u8]) -> bool
+    ensures { result ≡ is_report message.type_id message.subtype_id «data».now }
 {
-    if service != 1 {
-        return false;
-    }
-    if subtype < 1 {
-        return false;
-    }
-    if 8 < subtype {
-        return false;
-    }
-    data.len() == report_length(subtype)
+    message.type_id == 1
+        && (1..=8).contains(&message.subtype_id)
+        && data.len() == report_length(message.subtype_id)
 }
 
 impl Entry {
-    // With the kind of a report that has come.
-    fn noted(self, subtype: u8) -> Entry
-        ensures { result ≡ noted subtype self }
+    // A command that was sent, before any report on it.
+    fn new(id: u32, asked: u8) -> Entry
+        ensures { result ≡ entry_of id asked }
     {
-        let acceptance = either(subtype, 1, 2);
-        let start = either(subtype, 3, 4);
-        let progress = either(subtype, 5, 6);
         Entry {
-            id: self.id,
-            asked: self.asked,
-            acceptance: self.acceptance | acceptance,
-            start: self.start | start,
-            progress: self.progress | progress,
+            id,
+            asked,
+            acceptance: false,
+            start: false,
+            progress: false,
         }
+    }
+
+    // Notes the kind of a report that has come.
+    fn note(&mut self, subtype: u8)
+        ensures { self.new ≡ noted subtype self.old }
+    {
+        self.acceptance |= matches!(subtype, 1 | 2);
+        self.start |= matches!(subtype, 3 | 4);
+        self.progress |= matches!(subtype, 5 | 6);
+    }
+
+    // Completion is not among the kinds asked for, and as many have come as were asked for.
+    fn all_come(self) -> bool
+        ensures { result ≡ all_come self.asked self.acceptance self.start self.progress }
+    {
+        let come = counted(self.acceptance, self.asked, 8)
+            + counted(self.start, self.asked, 4)
+            + counted(self.progress, self.asked, 2);
+        self.asked % 2 == 0 && come == self.asked.count_ones()
     }
 
     // A report of this subtype, which has been noted, closes it.
     fn closes(self, subtype: u8) -> bool
         ensures { result ≡ closes subtype self }
     {
-        if ends(subtype) {
-            return true;
-        }
-        all_come(self.asked, self.acceptance, self.start, self.progress)
+        ends(subtype) || self.all_come()
+    }
+}
+
+impl Default for Tracker {
+    ghost is_default = { λ t. t ≡ new_tracker };
+
+    fn default() -> Tracker {
+        Tracker::new()
     }
 }
 
@@ -163,192 +131,129 @@ impl Tracker {
     pub fn new() -> Tracker
         ensures { result ≡ new_tracker }
     {
-        let blank = Entry {
-            id: 0,
-            asked: 0,
-            acceptance: false,
-            start: false,
-            progress: false,
-        };
-        let entries = [blank; 32];
-        Tracker { entries, count: 0 }
-    }
-
-    // The places in use: never more than there are.
-    fn used(self) -> usize
-        ensures { Used self result }
-    {
-        let n = self.count;
-        if n < 32 { n } else { 32 }
+        Tracker {
+            entries: [Entry::new(0, 0); MAX_OPEN],
+            count: 0,
+        }
     }
 
     // ---- what is open
 
-    pub fn is_open(self, id: u32) -> bool
-        ensures { result ≡ is_open self id }
+    // The entries in use: never more than there are places.
+    fn open(&self) -> &[Entry]
+        ensures { result.now ≡ entries_of self.now }
     {
-        let n = self.used();
-        let entries = self.entries;
-        let mut i: usize = 0;
-        while i < n {
-            let e = entries[i];
-            if e.id == id {
-                return true;
-            }
-            i += 1;
-        }
-        false
+        &self.entries[..self.count.min(MAX_OPEN)]
+    }
+
+    pub fn is_open(&self, id: u32) -> bool
+        ensures { result ≡ is_open self.now id }
+    {
+        self.open().iter().any(|entry| entry.id == id)
     }
 
     // How many are open.
-    pub fn open_count(self) -> usize
-        ensures { result ≡ length (open_of self) }
+    pub fn open_count(&self) -> usize
+        ensures { result ≡ length (open_of self.now) }
     {
-        self.used()
+        self.open().len()
     }
 
     // The open request that was sent as the i-th of them, from 0 on.
-    pub fn open_at(self, i: usize) -> OpenRequest
-        ensures { result ≡ request_at (open_of self) i }
+    pub fn open_at(&self, i: usize) -> Option<u32>
+        ensures { result ≡ request_at (open_of self.now) i }
     {
-        if i < self.used() {
-            let entries = self.entries;
-            let e = entries[i];
-            return OpenRequest::Some(e.id);
-        }
-        OpenRequest::None
+        self.open().get(i).map(|entry| entry.id)
     }
 
     // ---- reports
 
     // One more entry behind those in use.
-    fn add(self, e: Entry) -> Tracker
-        requires { length (entries_of self) < 32 }
-        ensures { result ≡ holding self (entries_of self ++ (e ∷ [])) }
+    fn add(&mut self, entry: Entry)
+        requires { length (entries_of self.old) < 32 }
+        ensures { self.new ≡ holding self.old (entries_of self.old ++ (entry ∷ [])) }
     {
-        let n = self.used();
-        let mut entries = self.entries;
-        entries[n] = e;
-        Tracker {
-            entries,
-            count: n + 1,
+        self.entries[self.count] = entry;
+        self.count += 1;
+    }
+
+    // What a report leaves of an entry, behind those in use.
+    fn add_left(&mut self, mut entry: Entry, id: u32, subtype: u8)
+        requires { length (entries_of self.old) < 32 }
+        ensures { self.new ≡ holding self.old (entries_of self.old ++ left_of id subtype entry) }
+    {
+        if entry.id == id {
+            entry.note(subtype);
+            if entry.closes(subtype) {
+                return;
+            }
+        }
+        self.add(entry);
+    }
+
+    // Notes a report: what it closes is gone, and its place is used again.
+    fn note(&mut self, id: u32, subtype: u8)
+        ensures { self.new ≡ holding self.old (left id subtype (entries_of self.old)) }
+    {
+        let before = *self;
+        self.count = 0;
+        for entry in before.open() {
+            self.add_left(*entry, id, subtype);
         }
     }
 
-    // With what a report leaves of an entry, behind those in use.
-    fn leave(self, e: Entry, id: u32, subtype: u8) -> Tracker
-        requires { length (entries_of self) < 32 }
-        ensures { result ≡ holding self (entries_of self ++ left_of id subtype e) }
+    // Telemetry of this type, with these data; 15, 16.
+    fn told(&mut self, message: MessageTypeId, data: &[u8]) -> Result<(), PusError>
+        ensures { outcome result self.new ≡ report_to self.old (report_from message.type_id message.subtype_id «data».now) }
     {
-        if e.id != id {
-            return self.add(e);
-        }
-        let next = e.noted(subtype);
-        if next.closes(subtype) {
-            return self;
-        }
-        self.add(next)
-    }
-
-    // With a report noted: what it closes is gone, and its place is used again.
-    fn after(self, id: u32, subtype: u8) -> Tracker
-        ensures { result ≡ holding self (left id subtype (entries_of self)) }
-    {
-        let n = self.used();
-        let entries = self.entries;
-        let mut out = Tracker { entries, count: 0 };
-        let mut i: usize = 0;
-        while i < n {
-            let e = entries[i];
-            out = out.leave(e, id, subtype);
-            i += 1;
-        }
-        out
-    }
-
-    // Telemetry of this service and subtype, with these data; 15, 16.
-    fn told(self, service: u8, subtype: u8, data: &[u8]) -> TrackerSet
-        ensures { tracker_kept result ≡ report_to self (report_from service subtype «data».now) }
-    {
-        if !is_report(service, subtype, data) {
-            return refused(self, PusError::NotAReport);
+        if !is_report(message, data) {
+            return Err(PusError::NotAReport);
         }
         let id = request_of(data);
         if !self.is_open(id) {
-            return refused(self, PusError::RequestNotOpen);
+            return Err(PusError::RequestNotOpen);
         }
-        taken(self.after(id, subtype))
+        self.note(id, message.subtype_id);
+        Ok(())
     }
 
-    // A report on a command that was sent, with a time field of `time_len` octets; 15, 16.
-    pub fn report(self, time_len: u8, octets: &[u8]) -> TrackerSet
-        ensures { tracker_kept result ≡ report_of self time_len octets.now }
+    // A report on a command that was sent, with a time field of `time_len` octets; 15, 16. Where it is refused, the tracker stays as
+    // it was.
+    pub fn report(&mut self, time_len: u8, octets: &[u8]) -> Result<(), PusError>
+        ensures { outcome result self.new ≡ report_of self.old time_len octets.now }
     {
-        let verdict = tm_strict::judge(time_len, octets);
-        match verdict {
-            tm_strict::Verdict::Refused(_) => refused(self, PusError::NotAReport),
-            tm_strict::Verdict::Accepted(record) => {
-                let data = tm_read::source_data(time_len, octets, true);
-                self.told(record.service_type_id(), record.message_subtype_id(), data)
-            }
-        }
+        let record = tm_strict::judge(time_len, octets).map_err(|_| PusError::NotAReport)?;
+        self.told(
+            record.sec_header.message_type_id,
+            tm_read::source_data(time_len, octets, true),
+        )
     }
 
     // ---- sending
 
     // A request that was accepted; 17, 18.
-    fn enter(self, id: u32, asked: u8) -> TrackerSet
-        ensures { tracker_kept result ≡ set_if (open_check (open_of self) id asked) self (opened self id asked) }
+    fn enter(&mut self, id: u32, asked: u8) -> Result<(), PusError>
+        ensures { outcome result self.new ≡ set_if (open_check (open_of self.old) id asked) self.old (opened self.old id asked) }
     {
-        if u8::count_ones(asked) == 0 {
-            return taken(self);
+        if asked.count_ones() == 0 {
+            return Ok(());
         }
         if self.is_open(id) {
-            return refused(self, PusError::RequestOpen);
+            return Err(PusError::RequestOpen);
         }
-        if 32 <= self.used() {
-            return refused(self, PusError::TrackerFull);
+        if self.open_count() >= MAX_OPEN {
+            return Err(PusError::TrackerFull);
         }
-        let e = Entry {
-            id,
-            asked,
-            acceptance: false,
-            start: false,
-            progress: false,
-        };
-        taken(self.add(e))
+        self.add(Entry::new(id, asked));
+        Ok(())
     }
 
-    // A command that is sent, of PUS C; the strict verdict's refusals, 17, 18. One that asks for no report opens nothing.
-    pub fn send(self, octets: &[u8]) -> TrackerSet
-        ensures { tracker_kept result ≡ send_of self octets.now }
+    // A command that is sent, of PUS C; the strict verdict's refusals, 17, 18. One that asks for no report opens nothing. Where it is
+    // refused, the tracker stays as it was.
+    pub fn send(&mut self, octets: &[u8]) -> Result<(), PusError>
+        ensures { outcome result self.new ≡ send_of self.old octets.now }
     {
-        let verdict = tc_strict::judge(octets);
-        match verdict {
-            tc_strict::Verdict::Refused(e) => refused(self, e),
-            tc_strict::Verdict::Accepted(record) => {
-                let second = record.sec_header;
-                let flags = second.ack_flags;
-                self.enter(request_of(octets), flags.raw_value())
-            }
-        }
-    }
-}
-
-fn taken(tracker: Tracker) -> TrackerSet
-    ensures { result ≡ record { tracker = tracker; result = CheckResult.Ok } }
-{
-    TrackerSet {
-        tracker,
-        result: CheckResult::Ok,
-    }
-}
-
-fn refused(tracker: Tracker, e: PusError) -> TrackerSet
-    ensures { result ≡ record { tracker = tracker; result = CheckResult.Err e } }
-{
-    TrackerSet {
-        tracker,
-        result: CheckResult::Err(e),
+        let record = tc_strict::judge(octets)?;
+        self.enter(request_of(octets), record.sec_header.ack_flags.raw_value())
     }
 }

@@ -6,34 +6,33 @@ use mathlib.Core.Bool.{Bool, true}
 use mathlib.Core.List.{List}
 use Rattle.space_packet.specs.Answer.{Kept}
 use Rattle.tracker.specs.Reports.{report_in}
-use Rattle.tracker.specs.Open.{is_open, send_of, report_of, tracker_kept}
+use Rattle.tracker.specs.Open.{is_open, send_of, report_of}
 use Rattle.tracker.specs.declared.Tracker.{Tracker}
-use Rattle.tracker.specs.declared.TrackerSet.{TrackerSet}
 use Rattle.tracker_history.specs.History.{sent, reported, History}
 use Rattle.tracker_history.specs.Answers.{run, Follows, OpenBy}
 use Rattle.tracker_history.proofs.Exactly.{open-exactly}
 use Rattle.tracker_history.proofs.Histories.{send-as-history, report-as-history, send-unchanged, report-unchanged}
 
-pub sent-follows : (t : Tracker) (s : List ℕ) (r : TrackerSet) → tracker_kept r ≡ send_of t s → (h : History) → t ≡ run h → Follows h (sent s) r
+pub sent-follows : (t : Tracker) (s : List ℕ) (k : Kept Tracker) → k ≡ send_of t s → (h : History) → t ≡ run h → Follows h (sent s) k
 unfolding run
-sent-follows t s r e h q =
-    let a = ap (λ (k : Kept Tracker). k.passed) e in
-    let k = ap (λ (k : Kept Tracker). k.kept) e in
+sent-follows t s k e h q =
+    let a = ap (λ (x : Kept Tracker). x.passed) e in
+    let l = ap (λ (x : Kept Tracker). x.kept) e in
     record {
       answered = a ∙ ap (λ (x : Tracker). (send_of x s).passed) q ∙ send-as-history h s;
-      runs = k ∙ ap (λ (x : Tracker). (send_of x s).kept) q;
-      unchanged = λ n p. k ∙ send-unchanged t s n (sym a ∙ p) ∙ q;
+      runs = l ∙ ap (λ (x : Tracker). (send_of x s).kept) q;
+      unchanged = λ n p. l ∙ send-unchanged t s n (sym a ∙ p) ∙ q;
     }
 
-pub report-follows : (t : Tracker) (n : ℕ) (s : List ℕ) (r : TrackerSet) → tracker_kept r ≡ report_of t n s → (h : History) → t ≡ run h → Follows h (reported n s) r
+pub report-follows : (t : Tracker) (n : ℕ) (s : List ℕ) (k : Kept Tracker) → k ≡ report_of t n s → (h : History) → t ≡ run h → Follows h (reported n s) k
 unfolding run
-report-follows t n s r e h q =
-    let a = ap (λ (k : Kept Tracker). k.passed) e in
-    let k = ap (λ (k : Kept Tracker). k.kept) e in
+report-follows t n s k e h q =
+    let a = ap (λ (x : Kept Tracker). x.passed) e in
+    let l = ap (λ (x : Kept Tracker). x.kept) e in
     record {
       answered = a ∙ ap (λ (x : Tracker). (report_of x n s).passed) q ∙ report-as-history h n s;
-      runs = k ∙ ap (λ (x : Tracker). (report_of x n s).kept) q;
-      unchanged = λ d p. k ∙ report-unchanged t (report_in n s) d (sym a ∙ p) ∙ q;
+      runs = l ∙ ap (λ (x : Tracker). (report_of x n s).kept) q;
+      unchanged = λ d p. l ∙ report-unchanged t (report_in n s) d (sym a ∙ p) ∙ q;
     }
 
 pub asked-exactly : (t : Tracker) (id : ℕ) (r : Bool) (h : History) → r ≡ is_open t id → t ≡ run h → (r ≡ true) ↔ OpenBy h id

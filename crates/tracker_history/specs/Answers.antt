@@ -1,13 +1,12 @@
 -- The tracker after any calls, and what is asked of its answers.
 use Rattle.std.specs.Prelude.{ℕ, ◌/◌, ◌≤◌, ◌≡◌, Bool, false, not, ◌&&◌, ◌||◌, List, [], ◌∷◌, length}
 use Rattle.std.specs.Int.Count.{ones}
+use Rattle.space_packet.specs.Answer.{Kept, Numbers, gives, refuses}
 use Rattle.space_packet.specs.Bits.{lowest}
-use Rattle.space_packet.specs.Answer.{Numbers, gives, refuses, check_answer}
 use Rattle.tracker.specs.Reports.{request_of, asked_of}
 use Rattle.tracker.specs.Refusals.{among}
 use Rattle.tracker.specs.Open.{new_tracker, send_of, report_of}
 use Rattle.tracker.specs.declared.Tracker.{Tracker}
-use Rattle.tracker.specs.declared.TrackerSet.{TrackerSet}
 use Rattle.tracker_history.specs.History.{Call, sent, reported, History, start, ◌▸◌, extended, closed_by, answer_after}
 
 -- ---- the tracker after the calls
@@ -22,11 +21,11 @@ run (h ▸ c) = called (run h) c
 
 -- ---- what is asked of one more call
 
--- its answer is the history's, its tracker that of one call more; a refusal leaves the tracker as it was
-pub record Follows (h : History) (c : Call) (r : TrackerSet) : Type 0 where
-  pub answered : check_answer r.result ≡ answer_after h c
-  pub runs : r.tracker ≡ run (h ▸ c)
-  pub unchanged : (e : Numbers) → check_answer r.result ≡ refuses e → r.tracker ≡ run h
+-- its answer is the history's, the tracker that it leaves that of one call more; a refusal leaves the tracker as it was
+pub record Follows (h : History) (c : Call) (k : Kept Tracker) : Type 0 where
+  pub answered : k.passed ≡ answer_after h c
+  pub runs : k.kept ≡ run (h ▸ c)
+  pub unchanged : (e : Numbers) → k.passed ≡ refuses e → k.kept ≡ run h
 
 -- ---- what is open
 

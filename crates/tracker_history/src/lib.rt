@@ -5,40 +5,42 @@
 #![tactic(auto)]
 
 ghost use Rattle.std.specs.Prelude.{◌≡◌, ◌↔◌, true, length};
+ghost use Rattle.space_packet.specs.Answer.{outcome};
 ghost use Rattle.tracker.specs.Open.{request_at};
 ghost use Rattle.tracker_history.specs.History.{History, start, ◌▸◌, sent, reported, open_after, open_in};
 ghost use Rattle.tracker_history.specs.Answers.{run, Follows, OpenBy, Few};
 
-use tracker::{OpenRequest, Tracker, TrackerSet};
+use space_packet::PusError;
+use tracker::Tracker;
 
 // ---- one more call, after any calls
 
-fn sent(tracker: Tracker, octets: &[u8]) -> TrackerSet
-    ensures { (h : History) → tracker ≡ run h → Follows h (sent octets.now) result }
+fn sent(tracker: &mut Tracker, octets: &[u8]) -> Result<(), PusError>
+    ensures { (h : History) → tracker.old ≡ run h → Follows h (sent octets.now) (outcome result tracker.new) }
 {
     tracker.send(octets)
 }
 
-fn reported(tracker: Tracker, time_len: u8, octets: &[u8]) -> TrackerSet
-    ensures { (h : History) → tracker ≡ run h → Follows h (reported time_len octets.now) result }
+fn reported(tracker: &mut Tracker, time_len: u8, octets: &[u8]) -> Result<(), PusError>
+    ensures { (h : History) → tracker.old ≡ run h → Follows h (reported time_len octets.now) (outcome result tracker.new) }
 {
     tracker.report(time_len, octets)
 }
 
-fn asked(tracker: Tracker, id: u32) -> bool
-    ensures { (h : History) → tracker ≡ run h → (result ≡ open_in h id) × ((result ≡ true) ↔ OpenBy h id) }
+fn asked(tracker: &Tracker, id: u32) -> bool
+    ensures { (h : History) → tracker.now ≡ run h → (result ≡ open_in h id) × ((result ≡ true) ↔ OpenBy h id) }
 {
     tracker.is_open(id)
 }
 
-fn counted(tracker: Tracker) -> usize
-    ensures { (h : History) → tracker ≡ run h → (result ≡ length (open_after h)) × Few (open_after h) }
+fn counted(tracker: &Tracker) -> usize
+    ensures { (h : History) → tracker.now ≡ run h → (result ≡ length (open_after h)) × Few (open_after h) }
 {
     tracker.open_count()
 }
 
-fn listed(tracker: Tracker, i: usize) -> OpenRequest
-    ensures { (h : History) → tracker ≡ run h → result ≡ request_at (open_after h) i }
+fn listed(tracker: &Tracker, i: usize) -> Option<u32>
+    ensures { (h : History) → tracker.now ≡ run h → result ≡ request_at (open_after h) i }
 {
     tracker.open_at(i)
 }
@@ -48,9 +50,9 @@ fn listed(tracker: Tracker, i: usize) -> OpenRequest
 fn in_a_row(time_len: u8, first: &[u8], report: &[u8], second: &[u8], id: u32) -> bool
     ensures { (result ≡ true) ↔ OpenBy (start ▸ sent first.now ▸ reported time_len report.now ▸ sent second.now) id }
 {
-    let t = Tracker::new();
-    let a = t.send(first);
-    let b = a.tracker.report(time_len, report);
-    let c = b.tracker.send(second);
-    c.tracker.is_open(id)
+    let mut tracker = Tracker::new();
+    let _ = tracker.send(first);
+    let _ = tracker.report(time_len, report);
+    let _ = tracker.send(second);
+    tracker.is_open(id)
 }

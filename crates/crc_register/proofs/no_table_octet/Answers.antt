@@ -7,4 +7,4 @@ use Rattle.crc_register.proofs.no_table_octet.Goals as goal
 pub returns : goal.returns
 unfolding ◌⊕◌ shifts
 returns c =
-    by-shifts c.args.r c.args.b (omega arith) (omega arith)
+    rw c.from.ensures (by-shifts c.args.r c.args.b (omega arith) (omega arith))

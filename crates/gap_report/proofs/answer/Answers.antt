@@ -7,12 +7,12 @@ use Rattle.input.proofs.Shown.{laid-counts, laid-text, rendered-counts, rendered
 use Rattle.gap_report.specs.Report.{report_text}
 use Rattle.gap_report.proofs.answer.Goals as goal
 
-pub returns-in-Octets : goal.returns-in-Octets
-returns-in-Octets c =
+pub returns-in-Ok : goal.returns-in-Ok
+returns-in-Ok c =
     let r = c.render.ensures in
-    let room = c.requires in record { prefix_len = rendered-counts r room; out_after = rendered-text r room ∙ printed-octets (ascii "tcgaps 1\n") report_text _ _ _ _ c.in-Octets.is c.part.ensures }
+    let room = c.requires in record { prefix_len = rendered-counts r room; out_after = rendered-text r room ∙ printed-octets (ascii "tcgaps 1\n") report_text _ _ _ _ c.in-Ok.is c.part.ensures }
 
-pub returns-in-Failed : goal.returns-in-Failed
-returns-in-Failed c =
+pub returns-in-Err : goal.returns-in-Err
+returns-in-Err c =
     let e = c.put_text.ensures in
-    let room = c.requires in record { prefix_len = laid-counts _ _ _ _ e (omega (arith, room)); out_after = laid-text _ _ _ _ e (omega (arith, room)) ∙ printed-failed (ascii "tcgaps 1\n") report_text _ _ c.in-Failed.is }
+    let room = c.requires in record { prefix_len = laid-counts _ _ _ _ e (omega (arith, room)); out_after = laid-text _ _ _ _ e (omega (arith, room)) ∙ printed-failed (ascii "tcgaps 1\n") report_text _ _ c.in-Err.is }

@@ -2,13 +2,9 @@
 use mathlib.Core.Path.{ap, ◌∙◌}
 use Rattle.text.specs.Page.{laid}
 use Rattle.text.proofs.Pages.{and_then}
-use Rattle.gap_report.proofs.Body.{rows_fit, gaps-text}
+use Rattle.gap_report.proofs.Body.{gaps-text}
 use Rattle.gap_report.proofs.put_gaps.Goals as goal
-
-pub put_rows-n-requires : goal.put_rows-n-requires
-put_rows-n-requires c =
-    rows_fit _ _ _ _ c.list_gaps-found.ensures
 
 pub returns : goal.returns
 returns c =
-    and_then _ _ _ c.put_rows-n.ensures c.put_end.ensures ∙ ap (laid _) (gaps-text _ _ _ _ c.list_gaps-found.ensures)
+    and_then _ _ _ c.put_rows-at.ensures c.put_end.ensures ∙ ap (laid _) (gaps-text _ _ _ _ c.list_gaps-found.ensures)

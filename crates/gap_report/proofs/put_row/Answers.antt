@@ -9,7 +9,7 @@ returns c =
     and_then _ _ _
     (and_then _ _ _
     (and_then _ _ _
-    (and_then _ _ _ (and_then _ _ _ c.put_number-n.ensures c.put_text-n.ensures) c.put_number-n-2.ensures)
-    c.put_text-n-2.ensures)
-    c.put_number-n-3.ensures)
+    (and_then _ _ _ (and_then _ _ _ c.put_number-at.ensures c.put_text-at.ensures) c.put_number-at-2.ensures)
+    c.put_text-at-2.ensures)
+    c.put_number-at-3.ensures)
     c.put_text.ensures

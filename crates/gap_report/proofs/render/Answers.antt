@@ -9,6 +9,6 @@ pub returns : goal.returns
 unfolding report_text
 returns c =
     record {
-      shown = and_then _ _ _ c.put_text-n.ensures c.put_body.ensures ∙ laid-start (report_text c.args.capture.now) c.args.out.now;
+      shown = and_then _ _ _ c.put_text-at.ensures c.put_body.ensures ∙ laid-start (report_text c.args.capture.now) c.args.out.now;
       whole = report-length c.args.capture.now;
     }

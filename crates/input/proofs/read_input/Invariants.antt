@@ -1,13 +1,11 @@
 -- `input::read_input` meets its contract: each turn reads one octet or more, within the buffer.
-use Prim.Native.Nat.{◌≤◌, ◌-◌}
-use mathlib.Core.Path.{◌≡◌}
-use lib.ListN.{length}
+use Rattle.std.proofs.Common.{◌-◌, ◌≤◌, length}
 use Rattle.input.proofs.read_input.Given as goal
 
 abbrev pub invariant-loop-n : goal.invariant-loop-n
 invariant-loop-n g l =
-    (l.n ≤ length l.buf) × (length l.buf ≡ length l.initial.buf)
+    l.n ≤ length l.buf
 
 abbrev pub decreases-loop-n : goal.decreases-loop-n
 decreases-loop-n g l =
-    length l.buf - l.n
+    length l.initial.buf - l.n

@@ -1,13 +1,11 @@
-use borrow.Author.Tests.{eq-eqb, ne_eqb}
-use lib.Ieee.{nan_bits}
+-- `param_value::is_nan64` meets its contract: without its sign, a NaN's pattern is above the infinity's.
+use mathlib.Core.Path.{sym, ap, ◌∙◌}
+use lib.Dec.{ltb}
+use lib.Ieee.{binary64}
+use lib.Ieee.Bits.{nan_bits_above}
+use Rattle.std.proofs.lemmas.Nat.{and_mask}
 use Rattle.param_value.proofs.is_nan64.Goals as goal
 
-pub returns-then-bits-eq2047 : goal.returns-then-bits-eq2047
-unfolding nan_bits
-returns-then-bits-eq2047 c =
-    simp (eq-eqb _ _ c.if-bits-eq2047.true)
-
-pub returns-else-bits-eq2047 : goal.returns-else-bits-eq2047
-unfolding nan_bits
-returns-else-bits-eq2047 c =
-    simp (ne_eqb _ _ c.if-bits-eq2047.false)
+pub returns : goal.returns
+returns c =
+    ap (ltb 0x7FF0_0000_0000_0000) (and_mask c.args.bits 63) ∙ sym (nan_bits_above binary64 c.args.bits)

@@ -1,23 +1,17 @@
-use Prim.Native.Nat.{◌-◌, ◌≤◌, ◌<◌}
-use mathlib.Core.Path.{◌≡◌, refl, sym, ◌∙◌}
+-- `param_value::put_number` meets its contract: the last bytes of the machine's eight.
+use Prim.Native.Nat.{◌-◌}
+use mathlib.Core.Path.{ap, ◌∙◌}
 use native.Mathlib.Omega.{arith}
-use lib.ListN.{length, length-set}
-use borrow.Author.Rules.{rules}
-use Rattle.param_value.proofs.Numbers.{write-begin, write_step, write-end}
+use lib.ListN.{length, drop, length-drop}
+use lib.Seq.{take_all}
+use Rattle.param_value.proofs.Numbers.{last_octets}
 use Rattle.param_value.proofs.put_number.Goals as goal
-
-pub loop-i-init : goal.loop-i-init
-loop-i-init c =
-    (search rules, refl, write-begin c.args.number c.args.part.now)
-
-pub loop-i-preserved : goal.loop-i-preserved
-loop-i-preserved c =
-    let i = c.loop-i.i in
-    let p = c.loop-i.part in
-    let h : 0 < i = c.loop-i-test.true in
-    let l : i ≤ length p = omega arith in
-    (omega arith, length-set p _ _ ∙ c.loop-i.invariant.1, write_step i (i - 1) c.loop-i.v p (omega (arith, h)) (omega (arith, h, l)) ∙ c.loop-i.invariant.2)
 
 pub returns : goal.returns
 returns c =
-    let h : c.loop-i.i ≡ 0 = omega arith in sym (write-end _ _ _ h) ∙ c.loop-i.invariant.2
+    let k = length c.args.part.now in
+    let b = c.to_be_bytes-octets.result in
+    c.copy_from_slice.ensures.after
+    ∙ take_all (8 - (8 - k)) (drop (8 - k) b) (omega (arith, length-drop (8 - k) b, ap length c.to_be_bytes-octets.ensures))
+    ∙ ap (drop (8 - k)) c.to_be_bytes-octets.ensures
+    ∙ last_octets k c.args.number c.requires

@@ -1,16 +1,11 @@
--- `param_value::write_value` meets its contract: the pattern's refusal, or its octets.
-use mathlib.Core.Path.{sym, ap, ◌∙◌}
-use Rattle.param_value.specs.Values.{pattern_answer}
-use Rattle.param_value.proofs.Calls.{octets-refused, octets-given, wrote-refused, wrote-sized}
+-- `param_value::write_value` meets its contract: what is lent to `put_number` has the octets of the type.
+use native.Mathlib.Omega.{arith}
+use lib.ListN.{length-take}
+use Rattle.param_value.proofs.Types.{octets_le}
 use Rattle.param_value.proofs.write_value.Goals as goal
 
-pub returns-in-Err : goal.returns-in-Err
-returns-in-Err c =
-    wrote-refused _ _ _ (octets-refused _ _ _ _ (sym c.pattern_of-pattern.ensures ∙ ap pattern_answer c.in-Err.is))
-
-pub returns-in-Ok : goal.returns-in-Ok
-returns-in-Ok c =
+pub put_number-requires : goal.put_number-requires
+put_number-requires c =
     let a = c.args in
-    let n = c.in-Ok.bits in
-    let p = sym c.pattern_of-pattern.ensures ∙ ap pattern_answer c.in-Ok.is in
-    wrote-sized _ _ n _ _ _ _ (octets-given a.ptc a.pfc a.value n p) c.octets_for.ensures c.put_pattern.ensures
+    let k = c.octets_for-octets.result in
+    omega (arith, octets_le a.ptc a.pfc, length-take k a.buf.now, c.octets_for-octets.ensures)

@@ -1,41 +1,50 @@
 -- `params::put_pair` meets its contract: two octets of the ID, then the value's.
-use Prim.Native.Nat.{ℕ, ◌+◌}
-use mathlib.Core.Path.{sym, ap, ◌∙◌}
+use mathlib.Core.Path.{◌≡◌, ap, ◌∙◌}
+use mathlib.Core.List.{List, [], ◌∷◌, ◌++◌}
+use Prim.Native.Nat.{ℕ, ◌+◌, ◌/◌, ◌%◌}
 use native.Mathlib.Omega.{arith}
-use lib.ListN.{length, length-set}
-use Rattle.param_value.specs.Octets.{given_by}
-use Rattle.param_value.proofs.Types.{octets-le}
-use Rattle.params.specs.Parameters.{ptc_of, pfc_of, octets_by}
-use Rattle.params.proofs.WriteLaws.{pair-length, pair_left}
+use Rattle.std.proofs.Common.{rules}
+use Rattle.std.specs.Prelude.{Some}
+use Rattle.space_packet.specs.Bits.{be16}
+use Rattle.params.specs.Parameters.{row_of}
+use Rattle.params.proofs.Lists.{row-is, found-row}
+use Rattle.params.proofs.WriteLaws.{pair-length, pair-known, pair-put}
 use Rattle.params.proofs.put_pair.Goals as goal
 
-pub bounds-part-0 : goal.bounds-part-0
-bounds-part-0 c =
-    let e = pair-length _ _ _ c.requires.are in let h = c.requires.room in omega (arith, e, h)
+pub unwrap-requires : goal.unwrap-requires
+unwrap-requires c =
+    let l = c.args.list.now in
+    let p = c.args.pair in
+    let e : c.find_row.result ≡ Some (row_of l p.id) = c.find_row.ensures ∙ row-is l p.id (pair-known l p c.args.part.now c.requires) in
+    search rules
 
-pub bounds-part-1 : goal.bounds-part-1
-bounds-part-1 c =
-    let e = pair-length _ _ _ c.requires.are in let h = c.requires.room in simp length-set (omega (arith, e, h))
+pub split_at_mut-id-requires : goal.split_at_mut-id-requires
+split_at_mut-id-requires c =
+    omega (arith, pair-length c.args.list.now c.args.pair c.requires.octets c.requires.are, c.requires.room)
 
-pub slice_bounds-write_value-count : goal.slice_bounds-write_value-count
-slice_bounds-write_value-count c =
-    let e = pair-length _ _ _ c.requires.are in let h = c.requires.room in simp length-set (omega (arith, e, h))
-
-pub slice_bounds-write_value-start : goal.slice_bounds-write_value-start
-slice_bounds-write_value-start c =
-    let e = pair-length _ _ _ c.requires.are in let h = c.requires.room in simp length-set (omega (arith, e, h))
+pub unwrap-requires-2 : goal.unwrap-requires-2
+unwrap-requires-2 c =
+    let a = c.args in
+    let e = found-row a.list.now a.pair.id _ _ c.find_row.ensures c.unwrap.ensures in
+    let put = pair-put a.list.now a.pair a.part.now c.requires _ _ _ _ e c.split_at_mut-id.ensures.back c.write_value.ensures in
+    rw put.done
 
 pub overflow_add-result : goal.overflow_add-result
 overflow_add-result c =
-    let r = c.row_of-row.result in
-    let k = octets-le (ptc_of r) (pfc_of r) in
-    let e = c.octets_for.ensures in omega (arith, k, e)
+    let a = c.args in
+    let e = found-row a.list.now a.pair.id _ _ c.find_row.ensures c.unwrap.ensures in
+    let put = pair-put a.list.now a.pair a.part.now c.requires _ _ _ _ e c.split_at_mut-id.ensures.back c.write_value.ensures in
+    let n : c.unwrap-2.result ≡ put.size = cc (put.done, c.unwrap-2.ensures) in
+    omega (arith, n, put.few)
 
 pub returns : goal.returns
 returns c =
     let a = c.args in
-    let e = c.row_of-row.ensures in
-    let h = c.requires in (
-      ap (λ (k : ℕ). 2 + k) (c.octets_for.ensures ∙ ap octets_by e) ∙ sym (ap (λ x. length (given_by x)) h.are ∙ pair-length a.list.now a.pair _ h.are),
-      pair_left a.list.now a.pair _ a.part.now _ _ e h c.write_value.ensures,
+    let e = found-row a.list.now a.pair.id _ _ c.find_row.ensures c.unwrap.ensures in
+    let put = pair-put a.list.now a.pair a.part.now c.requires _ _ _ _ e c.split_at_mut-id.ensures.back c.write_value.ensures in
+    let n : c.unwrap-2.result ≡ put.size = cc (put.done, c.unwrap-2.ensures) in
+    let h : a.pair.id / 256 % 256 ≡ a.pair.id / 256 = omega arith in
+    let i : c.copy_from_slice.new.self ≡ be16 a.pair.id = c.copy_from_slice.ensures.after ∙ c.to_be_bytes.ensures ∙ ap (λ (x : ℕ). x ∷ a.pair.id % 256 ∷ []) h in (
+      ap (λ (k : ℕ). 2 + k) n ∙ put.whole,
+      ap (λ (x : List ℕ). x ++ c.write_value.new.buf) i ∙ put.left,
     )

@@ -18,5 +18,5 @@ returns c =
     let r = sent-accepted t good d a.buf.now _ _ k.checksummed k.rules (record { fits = k.fits; is_slice = omega (arith, c.well_formed) }) c.write_to_slice.ensures in
     record {
       accepted = c.judge_in-verdict.ensures ∙ judged-by _ _ _ e ∙ r.accepted;
-      read = c.read-read.ensures ∙ ap kept_of (ap (read_request l) (c.app_data_in.ensures.result_value ∙ data-by _ _ _ e) ∙ sent-read t.form good l ps (packet_by t.sp_header t.sec_header d) a.buf.now _ _ w q k.rules r);
+      read = c.read_params-read.ensures ∙ ap kept_of (ap (read_request l) (c.app_data_in.ensures.result_value ∙ data-by _ _ _ e) ∙ sent-read t.form good l ps (packet_by t.sp_header t.sec_header d) a.buf.now _ _ w q k.rules r);
     }

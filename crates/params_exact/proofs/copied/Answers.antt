@@ -8,4 +8,4 @@ pub returns : goal.returns
 returns c =
     let d = c.args.«data».now in
     let o : Octets d = λ i. omega (arith, c.shared_slice_known-1.given i) in
-    (c.read-read.ensures, λ t h. record-written c.args.list.now d _ _ _ c.read-read.result o c.read-read.ensures t h c.write_to_slice-written.ensures)
+    (c.read_params-read.ensures, λ t h. record-written c.args.list.now d _ _ _ c.read_params-read.result.params c.read_params-read.result.result o c.read_params-read.ensures t h c.write_to_slice-written.ensures)

@@ -16,8 +16,8 @@ returns c =
     let d = c.app_data_in.ensures.result_value in
     record {
       commands = λ ps t. read-commands a.form l s ps o
-          (record { record_of = t.record_of; accepted = sym v ∙ t.accepted; type-is = t.type-is; read = ap (read_request l) (sym d) ∙ kept_gives _ ps (sym c.read-read.ensures ∙ t.read) });
+          (record { record_of = t.record_of; accepted = sym v ∙ t.accepted; type-is = t.type-is; read = ap (read_request l) (sym d) ∙ kept_gives _ ps (sym c.read_params-read.ensures ∙ t.read) });
       tells = λ good ps w k.
           let r = commands-read a.form l s ps good w k in
-          record { record_of = r.record_of; accepted = v ∙ r.accepted; type-is = r.type-is; read = c.read-read.ensures ∙ ap kept_of (ap (read_request l) d ∙ r.read) };
+          record { record_of = r.record_of; accepted = v ∙ r.accepted; type-is = r.type-is; read = c.read_params-read.ensures ∙ ap kept_of (ap (read_request l) d ∙ r.read) };
     }

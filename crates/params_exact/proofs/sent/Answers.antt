@@ -7,22 +7,18 @@ use Rattle.params.specs.Request.{pairs_of}
 use Rattle.params_exact.specs.Requests.{request_for}
 use Rattle.params_exact.specs.Command.{Sendable, Arrives}
 use Rattle.params_exact.proofs.Machine.{values-held, places}
-use Rattle.params_exact.proofs.Calls.{request-held, front-is, not-refused}
+use Rattle.params_exact.proofs.Calls.{request-held, front-is}
 use Rattle.params_exact.proofs.sent.Goals as goal
 
-pub returns-in-Ok : goal.returns-in-Ok
-returns-in-Ok c =
+pub returns : goal.returns
+returns c =
     let t = c.args.creator in
     let p = c.args.params in
     let l = c.args.list.now in
     let g = c.well_formed.1.0 in
     λ o e h u.
-    let f = c.front.ensures.result_value ∙ front-is l p o _ _ _ e h c.write_to_slice-written.ensures _ c.in-Ok.is in
+    let f = c.front.ensures.result_value ∙ front-is l p o _ _ _ e h c.write_to_slice.ensures _ c.unwrap_or-n.ensures in
     subst (λ (x : List ℕ). request_for l (pairs_of p) ≡ gives x → Sendable t x c.args.buf.now → Arrives t x (pairs_of p) c.carried.result) f
     (c.carried.ensures (pairs_of p) (values-held p _ g))
     (request-held l p o (places p _ g) e)
     u
-
-pub returns-in-Err : goal.returns-in-Err
-returns-in-Err c =
-    λ o e h u. absurd (not-refused c.args.list.now c.args.params o _ _ _ e h c.write_to_slice-written.ensures _ c.in-Err.is)

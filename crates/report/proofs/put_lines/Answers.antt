@@ -1,27 +1,11 @@
--- `report::put_lines` meets its contract: each turn lays the line of the piece at `from`.
-use mathlib.Core.Path.{refl}
-use native.Mathlib.Omega.{arith}
-use lib.ListN.{length}
-use Rattle.report.proofs.Lines.{on, done}
+-- `report::put_lines` meets its contract: each turn lays the line of the piece at the cursor.
+use Rattle.report.proofs.Lines.{on}
 use Rattle.report.proofs.put_lines.Goals as goal
 
-pub loop-from-init : goal.loop-from-init
-loop-from-init c =
-    (record { turns = length c.args.capture.now; enough = omega arith; kept = refl }, refl)
+pub loop-cursor-smaller : goal.loop-cursor-smaller
+loop-cursor-smaller c =
+    (on _ _ _ _ _ _ _ _ c.loop-cursor.invariant c.in-Some.is c.step-step.ensures c.put_step-at.ensures c.onward-cursor.ensures).further
 
-pub loop-from-smaller : goal.loop-from-smaller
-loop-from-smaller c =
-    let last = length c.args.capture.now in
-    let x = on _ _ _ _ last _ _ c.step-step.result c.loop-from.invariant.0 (omega arith) c.step-step.ensures c.put_step-at.ensures c.after-from.ensures in
-    let further = x.further in
-    omega arith
-
-pub loop-from-preserved : goal.loop-from-preserved
-loop-from-preserved c =
-    let last = length c.args.capture.now in
-    let x = on _ _ _ _ last _ _ c.step-step.result c.loop-from.invariant.0 (omega arith) c.step-step.ensures c.put_step-at.ensures c.after-from.ensures in
-    (x.left, omega arith)
-
-pub returns : goal.returns
-returns c =
-    done _ _ _ _ c.loop-from.invariant.0 (omega arith)
+pub loop-cursor-preserved : goal.loop-cursor-preserved
+loop-cursor-preserved c =
+    (on _ _ _ _ _ _ _ _ c.loop-cursor.invariant c.in-Some.is c.step-step.ensures c.put_step-at.ensures c.onward-cursor.ensures).left

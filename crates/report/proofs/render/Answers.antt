@@ -10,7 +10,7 @@ pub returns : goal.returns
 unfolding report_text
 returns c =
     let capture = c.args.capture.now in
-    let laid-all = and_then _ _ _ c.put_text-n.ensures c.put_body.ensures in
+    let laid-all = and_then _ _ _ c.put_text-at.ensures c.put_body.ensures in
     record {
       shown = laid-all ∙ laid-start (report_text capture) c.args.out.now;
       whole = report-length capture (search rules);

@@ -7,5 +7,7 @@ use Rattle.stations_handover.proofs.is_empty.Goals as goal
 
 pub returns : goal.returns
 returns c =
-    let e = c.best-part.ensures.result_value in
-    let q = part-empty _ _ _ in (λ z. q.0 (sym e ∙ none-of-length _ (eqb-true _ 0 z)), λ n. eq-eqb _ 0 (ap length (e ∙ q.1 n)))
+    let e = c.best.ensures.result_value in
+    let z = c.is_empty.ensures in
+    let q = part-empty _ _ _ in
+    (λ y. q.0 (sym e ∙ none-of-length _ (eqb-true _ 0 (sym z ∙ y))), λ n. z ∙ eq-eqb _ 0 (ap length (e ∙ q.1 n)))

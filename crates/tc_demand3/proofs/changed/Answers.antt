@@ -5,4 +5,4 @@ use Rattle.tc_demand3.proofs.changed.Goals as goal
 
 pub returns : goal.returns
 returns c =
-    λ good. both-answered-each _ _ c.judge_in-first.ensures c.judge_in-second.ensures (changed-refused _ good _ _) (up-to-three-refused _ good _ _)
+    λ good. both-answered-each _ _ c.judge_in.ensures c.judge_in-2.ensures (changed-refused _ good _ _) (up-to-three-refused _ good _ _)

@@ -15,5 +15,5 @@ returns c =
     let a = c.args in
     let s = a.octets.now in
     let e = c.judge_in.ensures in
-    let o : Octets s = λ i. omega (arith, c.shared_slice_known-1.given i) in
+    let o : Octets s = λ i. omega (arith, c.type_inv.octets i) in
     λ good. subst (λ (v : Answer PusTcRecord). Exact (tc a.form) (report_for a.form) v s) (sym e) (exact a.form good s o)

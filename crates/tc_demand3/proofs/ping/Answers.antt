@@ -1,17 +1,16 @@
 -- `tc_demand3::ping` meets its contract: what is built is not refused, and its octets are the ping command's.
-use mathlib.Core.Path.{sym, ap, ◌∙◌}
+use mathlib.Core.Path.{◌∙◌}
 use Rattle.space_packet.proofs.Answers.{gives-inj, never}
-use Rattle.tc_write.specs.Creator.{creator_answer}
 use Rattle.tc_demand3.proofs.Pinged.{ping-made, ping-wrote}
 use Rattle.tc_demand3.proofs.ping.Goals as goal
 
-pub returns-in-Err : goal.returns-in-Err
-returns-in-Err c =
-    λ a n. absurd (never _ _ (sym (ap creator_answer c.in-Err.is) ∙ c.build-made.ensures ∙ ping-made _ (c.ping_builder.ensures a n)))
+pub returns-in_err-creator : goal.returns-in_err-creator
+returns-in_err-creator c =
+    λ a n. absurd (never _ _ (c.in_err-creator.ensures ∙ ping-made _ (gives-inj _ _ (c.in_ok-ping_builder.ensures a n))))
 
-pub returns-in-Ok : goal.returns-in-Ok
-returns-in-Ok c =
+pub returns : goal.returns
+returns c =
     λ a n.
     ping-wrote _ _ _ _
-    (gives-inj _ _ (sym (ap creator_answer c.in-Ok.is) ∙ c.build-made.ensures ∙ ping-made _ (c.ping_builder.ensures a n)))
+    (gives-inj _ _ (c.in_ok-creator.ensures ∙ ping-made _ (gives-inj _ _ (c.in_ok-ping_builder.ensures a n))))
     c.write_to_slice.ensures

@@ -5,7 +5,8 @@ use mathlib.Core.Bool.{Bool, true}
 use mathlib.Core.List.{List}
 use Prim.Native.Nat.{ℕ}
 use native.Mathlib.Omega.{arith}
-use Rattle.space_packet.specs.declared.SizeResult.{SizeResult}
+use Rattle.std.specs.Prelude.{Result}
+use Rattle.space_packet.specs.declared.PusError.{PusError}
 use Rattle.tc_header.specs.declared.TcForm.{TcForm}
 use Rattle.tc_write.specs.Creator.{creator_in, PacketWrote}
 use Rattle.tc_write.specs.declared.PusTcCreator.{PusTcCreator}
@@ -16,7 +17,7 @@ use Rattle.tc_demand3.proofs.written.Goals as goal
 in-form : (f g : TcForm) (s : List ℕ) → f ≡ g → strict_in f s ≡ strict_in g s
 in-form f g s e = ap (λ (z : TcForm). strict_in z s) e
 
-with-checksum : (t : PusTcCreator) (d before after : List ℕ) (r : SizeResult) → t.has_checksum ≡ true → PacketWrote t d before r after
+with-checksum : (t : PusTcCreator) (d before after : List ℕ) (r : Result ℕ PusError) → t.has_checksum ≡ true → PacketWrote t d before r after
     → PacketWrote (creator_in t.form t.sp_header t.sec_header true) d before r after
 with-checksum t d before after r e w =
     subst (λ (b : Bool). PacketWrote (creator_in t.form t.sp_header t.sec_header b) d before r after) e w

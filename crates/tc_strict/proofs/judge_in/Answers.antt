@@ -1,23 +1,18 @@
 -- `tc_strict::judge_in` meets its contract: the reader's answer, then the strict checks on what it reported.
-use mathlib.Core.Path.{sym, ap, ◌∙◌}
-use Rattle.space_packet.specs.Answer.{check_answer}
+use mathlib.Core.Path.{sym, ◌∙◌}
+use Rattle.std.proofs.Common.{rules}
 use Rattle.space_packet.proofs.Answers.{gives_then, refuses-then}
-use Rattle.tc_read.specs.Read.{record_answer}
 use Rattle.tc_strict.proofs.Verdicts.{verdict-refused, verdict-ruled}
 use Rattle.tc_strict.proofs.judge_in.Goals as goal
 
-pub returns-in-Err : goal.returns-in-Err
-returns-in-Err c =
-    let e = sym c.new_in-read.ensures ∙ ap record_answer c.in-Err.is in sym (verdict-refused _ _ _ e)
+pub returns-in_err-record : goal.returns-in_err-record
+returns-in_err-record c =
+    let e = verdict-refused _ _ _ (sym c.in_err-record.ensures) in search rules
 
-pub returns-in-Err-c : goal.returns-in-Err-c
-returns-in-Err-c c =
-    let e = sym c.new_in-read.ensures ∙ ap record_answer c.in-Ok.is in
-    let v = sym c.strict_rule-c.ensures ∙ ap check_answer c.in-Err-c.is in
-    sym (verdict-ruled _ _ _ _ c.sec_header_part-second.ensures.result_value e ∙ refuses-then _ _ _ v)
+pub returns-in_err-strict_rule : goal.returns-in_err-strict_rule
+returns-in_err-strict_rule c =
+    let e = verdict-ruled _ _ _ _ c.sec_header_part.ensures.result_value (sym c.in_ok-record.ensures) ∙ refuses-then _ _ _ (sym c.in_err-strict_rule.ensures) in search rules
 
-pub returns-in-Ok-c : goal.returns-in-Ok-c
-returns-in-Ok-c c =
-    let e = sym c.new_in-read.ensures ∙ ap record_answer c.in-Ok.is in
-    let v = sym c.strict_rule-c.ensures ∙ ap check_answer c.in-Ok-c.is in
-    sym (verdict-ruled _ _ _ _ c.sec_header_part-second.ensures.result_value e ∙ gives_then _ _ _ v)
+pub returns : goal.returns
+returns c =
+    sym (verdict-ruled _ _ _ _ c.sec_header_part.ensures.result_value (sym c.in_ok-record.ensures) ∙ gives_then _ _ _ (sym c.in_ok-strict_rule.ensures))

@@ -1,21 +1,19 @@
--- `text::are_pairs` meets its contract: each turn takes the two digits at i.
-use mathlib.Core.Path.{refl}
-use native.Mathlib.Omega.{arith}
-use Rattle.text.proofs.Laws.{pairs-again, pairs-no, pairs-yes}
+-- `text::are_pairs` meets its contract: all its octets stand in pairs, and all of these are of digits.
+use Rattle.std.proofs.Common.{rules, tests, arith}
+use Rattle.std.proofs.lemmas.Grind.{common_steps}
+use Rattle.std.proofs.lemmas.Iterator.{YieldsList-from_slice}
+use Rattle.std.proofs.lemmas.Iterator.Search.{all_from_yields_List}
+use Rattle.text.proofs.Laws.{is_pair, are_pairs-chunks, some_pair}
 use Rattle.text.proofs.are_pairs.Goals as goal
 
-pub loop-i-init : goal.loop-i-init
-loop-i-init c =
-    record { paired = refl }
+pub returns-then-is_empty : goal.returns-then-is_empty
+returns-then-is_empty c =
+    let s = c.args.s.now in
+    let all = all_from_yields_List is_pair _ _ c.all.result c.all.ensures.ran (YieldsList-from_slice c.as_chunks.result.0.now cc) (λ x b q k. search (rules, tests, some_pair)) in
+    let is = are_pairs-chunks s in
+    grind (arith, common_steps)
 
-pub returns-then-pair_at-gt255 : goal.returns-then-pair_at-gt255
-returns-then-pair_at-gt255 c =
-    pairs-no c.loop-i.invariant (omega arith) (omega arith)
-
-pub loop-i-preserved : goal.loop-i-preserved
-loop-i-preserved c =
-    pairs-again c.loop-i.invariant (omega arith)
-
-pub returns : goal.returns
-returns c =
-    pairs-yes c.loop-i.invariant (omega arith)
+pub returns-else-is_empty : goal.returns-else-is_empty
+returns-else-is_empty c =
+    let is = are_pairs-chunks c.args.s.now in
+    grind (arith, common_steps)

@@ -1,22 +1,18 @@
--- `text::decode` meets its contract: each turn lays the octet of the two digits at i.
-use mathlib.Core.Path.{refl, ap, ◌∙◌}
-use native.Mathlib.Omega.{arith}
-use Rattle.text.specs.Page.{placed}
-use Rattle.text.proofs.Laws.{pair-octet, pair-laid, pair_end}
+-- `text::decode` meets its contract: each turn lays the octet of one pair.
+use Rattle.std.proofs.Common.{arith}
+use Rattle.std.proofs.lemmas.Grind.{common_steps}
+use Rattle.text.specs.Page.{page, laid}
+use Rattle.text.proofs.Laws.{pair_octets-chunks, pair_is, laid_next}
 use Rattle.text.proofs.decode.Goals as goal
 
-pub loop-i-init : goal.loop-i-init
-loop-i-init c =
-    (record { good = record { paired = c.requires }; kept = refl }, refl)
+pub unwrap-requires : goal.unwrap-requires
+unwrap-requires c = pair_is c.args.s.now c.as_chunks.result.0.now _ _ c.requires c.as_chunks.ensures.front c.loop-x-test.true c.pair.ensures.value
 
-pub overflow_cast-pair_at : goal.overflow_cast-pair_at
-overflow_cast-pair_at c =
-    omega (arith, pair-octet c.loop-i.invariant.0 (omega arith))
-
-pub loop-i-preserved : goal.loop-i-preserved
-loop-i-preserved c =
-    (pair-laid c.loop-i.invariant.0 (omega arith) (c.put-n.ensures ∙ ap (placed _) c.pair_at.ensures), omega arith)
+pub loop-x-preserved : goal.loop-x-preserved
+loop-x-preserved c =
+    let on = laid_next (page c.loop-x.out c.loop-x.n) c.as_chunks.result.0.now c.loop-x.x-index c.loop-x-test.true in
+    grind (arith, common_steps)
 
 pub returns : goal.returns
-returns c =
-    pair_end c.loop-i.invariant.0 (omega arith)
+unfolding laid
+returns c = let is = pair_octets-chunks c.args.s.now in grind (arith, common_steps)

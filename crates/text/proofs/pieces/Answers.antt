@@ -1,29 +1,14 @@
--- `text::pieces` meets its contract: each turn counts the character at i.
-use mathlib.Core.Path.{refl}
-use native.Mathlib.Omega.{arith}
-use Rattle.text.specs.Pieces.{count_of}
-use Rattle.text.proofs.Laws.{here, on, end, count-le}
+-- `text::pieces` meets its contract: `split` gives one more than there are separators.
+use Rattle.std.proofs.Common.{eqb, rules, tests, arith}
+use Rattle.std.proofs.lemmas.Iterator.Consumers.{count_from_yields_List}
+use Rattle.std.proofs.lemmas.Iterator.Splits.{YieldsList-from_slice_split}
+use Rattle.std.proofs.lemmas.List.Splits.{length-slice_split}
+use Rattle.text.proofs.Laws.{count-split}
 use Rattle.text.proofs.pieces.Goals as goal
 
-pub loop-i-init : goal.loop-i-init
-loop-i-init c =
-    record { kept = refl }
-
-pub overflow_add-n : goal.overflow_add-n
-unfolding count_of
-overflow_add-n c =
-    omega (
-      arith,
-      here c.loop-i.invariant (omega arith),
-      count-le c.args.sep c.args.s.now,
-    )
-
-pub loop-i-preserved : goal.loop-i-preserved
-unfolding count_of
-loop-i-preserved c =
-    on c.loop-i.invariant (omega arith) (λ l. omega arith)
-
 pub returns : goal.returns
-unfolding count_of
 returns c =
-    omega (arith, end c.loop-i.invariant (omega arith))
+    let s = c.args.s.now in
+    let split = c.split.ensures in
+    let count = count_from_yields_List c.split.result c.count.result c.count.ensures.ran (YieldsList-from_slice_split _ (λ x. eqb x c.args.sep) s split.rest split.done split.closure (λ x b q k. search (rules, tests))) in
+    omega (arith, count, length-slice_split (λ x. eqb x c.args.sep) s, count-split c.args.sep s)

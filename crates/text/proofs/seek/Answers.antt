@@ -1,26 +1,15 @@
--- `text::seek` meets its contract: each turn leaves a character that is not b behind.
-use mathlib.Core.Path.{refl}
-use native.Mathlib.Omega.{arith}
-use borrow.Author.Tests.{eq-eqb, ne_eqb}
-use Rattle.text.specs.Pieces.{gap}
-use Rattle.text.proofs.Laws.{here, on, end}
+-- `text::seek` meets its contract: the place that `position` finds in what is left is the gap.
+use Rattle.std.proofs.Common.{◌≡◌, eqb, rules, tests, arith}
+use Rattle.std.specs.List.{position}
+use Rattle.std.proofs.lemmas.Iterator.{YieldsList-from_slice}
+use Rattle.std.proofs.lemmas.Iterator.Search.{position_from_yields_List}
+use Rattle.text.proofs.Laws.{gap-position}
 use Rattle.text.proofs.seek.Goals as goal
 
-pub loop-i-init : goal.loop-i-init
-loop-i-init c =
-    record { kept = refl }
-
-pub returns-then-s-i : goal.returns-then-s-i
-unfolding gap
-returns-then-s-i c =
-    omega (arith, rw (eq-eqb _ _ c.if-s-i.true) at (here c.loop-i.invariant (omega arith)))
-
-pub loop-i-preserved : goal.loop-i-preserved
-unfolding gap
-loop-i-preserved c =
-    on c.loop-i.invariant (omega arith) (λ l. rw (ne_eqb _ _ c.if-s-i.false) (omega arith))
-
 pub returns : goal.returns
-unfolding gap
 returns c =
-    omega (arith, end c.loop-i.invariant (omega arith))
+    let rest = c.tail-rest.result.now in
+    let found : c.position.result ≡ position (λ x. eqb x c.args.b) rest =
+    position_from_yields_List (λ x. eqb x c.args.b) _ _ _ c.position.ensures.ran (YieldsList-from_slice rest cc) (λ x b q k. search (rules, tests)) in
+    let gap = gap-position c.args.b rest in
+    grind (arith, gap, found)

@@ -5,4 +5,4 @@ use Rattle.tm_demand3.proofs.changed.Goals as goal
 
 pub returns : goal.returns
 returns c =
-    λ good. both-answered-each _ _ c.judge-first.ensures c.judge-second.ensures (changed-refused _ good _ _) (up-to-three-refused _ good _ _)
+    λ good. both-answered-each _ _ c.judge.ensures c.judge-2.ensures (changed-refused _ good _ _) (up-to-three-refused _ good _ _)

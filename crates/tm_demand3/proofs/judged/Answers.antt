@@ -16,5 +16,5 @@ returns c =
     let t = a.time_len in
     let s = a.octets.now in
     let e = c.judge.ensures in
-    let o : Octets s = λ i. omega (arith, c.shared_slice_known-1.given i) in
+    let o : Octets s = λ i. omega (arith, c.type_inv.octets i) in
     λ good. subst (λ (v : Answer PusTmRecord). Exact (tm t) (report_for t) v s) (sym e) (exact t good s o)

@@ -5,7 +5,8 @@ use mathlib.Core.Bool.{Bool, true}
 use mathlib.Core.List.{List}
 use Prim.Native.Nat.{ℕ}
 use native.Mathlib.Omega.{arith}
-use Rattle.space_packet.specs.declared.SizeResult.{SizeResult}
+use Rattle.std.specs.Prelude.{Result}
+use Rattle.space_packet.specs.declared.PusError.{PusError}
 use Rattle.tm_write.specs.Creator.{creator_of, PacketWrote}
 use Rattle.tm_write.specs.declared.PusTmCreator.{PusTmCreator}
 use Rattle.tm_strict.specs.Verdict.{strict_in}
@@ -15,7 +16,7 @@ use Rattle.tm_demand3.proofs.written.Goals as goal
 of_length : (t u : ℕ) (s : List ℕ) → t ≡ u → strict_in t s ≡ strict_in u s
 of_length t u s e = ap (λ (z : ℕ). strict_in z s) e
 
-with-checksum : (c : PusTmCreator) (l d before after : List ℕ) (r : SizeResult) → c.has_checksum ≡ true → PacketWrote c l d before r after
+with-checksum : (c : PusTmCreator) (l d before after : List ℕ) (r : Result ℕ PusError) → c.has_checksum ≡ true → PacketWrote c l d before r after
     → PacketWrote (creator_of c.time_len c.sp_header c.sec_header true) l d before r after
 with-checksum c l d before after r e w =
     subst (λ (b : Bool). PacketWrote (creator_of c.time_len c.sp_header c.sec_header b) l d before r after) e w

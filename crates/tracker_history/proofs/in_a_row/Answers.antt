@@ -10,10 +10,7 @@ returns c =
     let a = c.args in
     let one = start ▸ sent a.first.now in
     let two = one ▸ reported a.time_len a.report.now in
-    let x = c.send-a in
-    let y = c.report-b in
-    let z = c.send-c in
-    let p = (sent-follows _ _ x.result x.ensures start c.new-t.ensures).runs in
-    let q = (report-follows _ _ _ y.result y.ensures one p).runs in
-    let r = (sent-follows _ _ z.result z.ensures two q).runs in
+    let p = (sent-follows _ _ _ c.send.ensures start c.new-tracker.ensures).runs in
+    let q = (report-follows _ _ _ _ c.report.ensures one p).runs in
+    let r = (sent-follows _ _ _ c.send-2.ensures two q).runs in
     asked-exactly _ a.id _ (two ▸ sent a.second.now) c.is_open.ensures r

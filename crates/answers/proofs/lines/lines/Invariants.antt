@@ -1,13 +1,7 @@
--- `answers::lines::lines` is safe and ends: each turn leaves a line behind.
-use Prim.Native.Nat.{◌-◌}
-use mathlib.Core.Path.{◌≡◌}
-use lib.ListN.{length}
+-- `answers::lines::lines` is safe: no more is held than the buffer has room for.
+use Rattle.std.proofs.Common.{length, ◌≤◌}
 use Rattle.answers.proofs.lines.lines.Given as goal
 
-abbrev pub invariant-loop-from : goal.invariant-loop-from
-invariant-loop-from l =
-    (length l.a ≡ length l.initial.a) × (length l.b ≡ length l.initial.b)
-
-abbrev pub decreases-loop-from : goal.decreases-loop-from
-decreases-loop-from l =
-    length l.s - l.from
+abbrev pub invariant-loop : goal.invariant-loop
+invariant-loop g l =
+    l.held ≤ length l.buf

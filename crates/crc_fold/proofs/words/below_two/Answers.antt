@@ -3,7 +3,7 @@ use mathlib.Core.Path.{refl}
 use native.Mathlib.Omega.{arith}
 use lib.ListN.{drop}
 use Rattle.crc_register.specs.Crc.{crc_from}
-use Rattle.crc_register.proofs.Linear.{StillMakes, turn, end}
+use Rattle.crc_fold.proofs.Loop.{StillMakes, turn, end}
 use Rattle.crc_fold.proofs.words.below_two.Goals as goal
 
 pub returns-then-i-s : goal.returns-then-i-s

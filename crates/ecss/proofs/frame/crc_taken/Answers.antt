@@ -4,9 +4,9 @@ use mathlib.Core.Path.{◌≡◌, sym, ap, ◌∙◌}
 use mathlib.Core.Bool.{not, Bool}
 use native.Mathlib.Omega.{arith}
 use borrow.Author.Tests.{not-true, not-false}
+use Rattle.std.specs.Prelude.{Some}
 use Rattle.space_packet.specs.Bits.{word}
 use Rattle.ecss.specs.Frame.{crc_taken}
-use Rattle.ecss.specs.declared.Crc16.TheVariants.{Some}
 use Rattle.ecss.proofs.frame.crc_taken.Goals as goal
 
 pub returns-then-not-has_checksum : goal.returns-then-not-has_checksum

@@ -1,15 +1,16 @@
 -- `frame::frame_of` meets its contract: each test is the definition's, in its order, on the total that the length field states.
 use mathlib.Core.Path.{sym, ap, ◌∙◌}
+use Rattle.std.specs.Prelude.{Err}
 use borrow.Author.Tests.{lt-ltb, le-ltb}
+use Rattle.space_packet.specs.Answer.{answer_of, refuse_if}
 use Rattle.space_packet.proofs.Answers.{refuse-yes}
-use Rattle.space_packet.specs.Answer.{size_answer, refuse_if}
 use Rattle.ecss.specs.Frame.{frame_of}
 use Rattle.ecss.proofs.frame.frame_of.Goals as goal
 
 pub returns-then-n-start : goal.returns-then-n-start
 unfolding frame_of
 returns-then-n-start c =
-    ap size_answer c.too_small.ensures ∙ sym (refuse-yes _ _ _ (lt-ltb _ _ c.if-n-start.true))
+    ap (λ e. answer_of (Err e)) c.too_small.ensures ∙ sym (refuse-yes _ _ _ (lt-ltb _ _ c.if-n-start.true))
 
 pub returns-then-n-total : goal.returns-then-n-total
 unfolding frame_of refuse_if

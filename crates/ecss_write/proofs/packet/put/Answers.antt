@@ -4,13 +4,14 @@ use Prim.Native.Nat.{ℕ}
 use mathlib.Core.Path.{◌≡◌, sym, subst}
 use mathlib.Core.Bool.{Bool, true, false}
 use mathlib.Core.List.{List}
+use Rattle.std.specs.Prelude.{Result}
+use Rattle.space_packet.specs.declared.PusError.{PusError}
 use Rattle.space_packet.specs.Answer.{Passed}
 use Rattle.space_packet.specs.Wrote.{Wrote}
-use Rattle.space_packet.specs.declared.SizeResult.{SizeResult}
 use Rattle.ecss_write.specs.Write.{put_with, put_octets}
 use Rattle.ecss_write.proofs.packet.put.Goals as goal
 
-chosen : (x y : Bool) (before after : Passed) (start : ℕ) (b : Bool) (n m : ℕ) (o l k : List ℕ) (r : SizeResult) → x ≡ y
+chosen : (x y : Bool) (before after : Passed) (start : ℕ) (b : Bool) (n m : ℕ) (o l k : List ℕ) (r : Result ℕ PusError) → x ≡ y
     → Wrote (put_with y before after start b n m) (put_octets y b o) l r k → Wrote (put_with x before after start b n m) (put_octets x b o) l r k
 chosen x y before after start b n m o l k r e =
     subst (λ (z : Bool). Wrote (put_with z before after start b n m) (put_octets z b o) l r k) (sym e)

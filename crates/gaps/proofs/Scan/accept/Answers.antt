@@ -1,37 +1,44 @@
--- `Scan::accept` meets its contract, in each of its five exits.
-use Rattle.gaps.proofs.Scans.{takes_none, takes_first, takes-next, takes-no-place, takes-gap}
+-- `Scan::accept` meets its contract, in each of its exits: the first of an APID, a gap with no place, and a command that is noted, with a
+-- gap or with none.
+use Prim.Native.Nat.{◌<◌}
+use mathlib.Core.Path.{◌≡◌, sym, ap, ap₂, subst, ◌∙◌}
+use lib.ListN.{length, take, set}
+use Rattle.space_packet.specs.Answer.{Kept, gives}
+use Rattle.gaps.specs.Gaps.{Rows, State, Reached, stop, place_of, with_accepted, by_move}
+use Rattle.gaps.specs.declared.Scan.TheInside.{Inside}
+use Rattle.gaps.proofs.Scans.{starts, moves, stops, takes-next, takes-no-place, takes-gap}
 use Rattle.gaps.proofs.Scan.accept.Goals as goal
+use Rattle.gaps.proofs.Scan.accept.Goals.{then-found-expected+else-self-list, else-found-expected}
 
-pub returns-then-p-ge-MAX_APIDS : goal.returns-then-p-ge-MAX_APIDS
-returns-then-p-ge-MAX_APIDS c =
-    let both =
-    takes_none _ c.requires.0 _ _ _ _ _ c.value-apid.ensures c.place-p.ensures c.if-n-p.true c.if-p-ge-MAX_APIDS.true
-    in record { result_value = both.0; sound = both.1 }
+pub returns-in_default : goal.returns-in_default
+returns-in_default c = starts _ c.args.self.now _ _ _ _ _ c.in_default.ensures c.start.ensures
 
-pub returns-then-n-p : goal.returns-then-n-p
-returns-then-n-p c =
-    let both =
-    takes_first _ c.requires.0 _ _ _ _ _ c.value-apid.ensures c.place-p.ensures c.if-n-p.true c.if-p-ge-MAX_APIDS.false
-    _ c.noting.ensures
-    in record { result_value = both.0; sound = both.1 }
-
-pub returns-then-found-expected : goal.returns-then-found-expected
-returns-then-found-expected c =
-    let both =
-    takes-next _ c.requires.0 _ _ _ _ _ c.value-apid.ensures c.place-p.ensures c.if-n-p.false
-    _ _ c.after-expected.ensures c.value-found.ensures c.if-found-expected.true _ c.noting-then-found-expected.ensures
-    in record { result_value = both.0; sound = both.1 }
-
-pub returns-then-places-listed : goal.returns-then-places-listed
-returns-then-places-listed c =
-    let both =
-    takes-no-place _ c.requires.0 _ _ _ _ _ c.value-apid.ensures c.place-p.ensures c.if-n-p.false
-    _ _ c.after-expected.ensures c.value-found.ensures c.if-found-expected.false c.if-places-listed.true c.no_place.result c.no_place.ensures
-    in record { result_value = both.0; sound = both.1 }
+pub returns-then-self-list : goal.returns-then-self-list
+returns-then-self-list c =
+    let a = c.args in
+    let f = c.self.inside in
+    let v = c.self.view_is in
+    let h = subst (λ (s : State). (c.in-Some.place ≡ place_of s.lasts a.command.apid.0) × (c.in-Some.place < length s.lasts)) (sym v) c.in-Some.ensures in
+    ap (λ n. by_move (stop n) a.self.now a.list.now) c.no_place.ensures
+    ∙ stops _ f.lasts f.apids f.listed f.totals a.total a.command a.self.now a.list.now _ v
+    (takes-no-place (length a.list.now) f.lasts f.apids f.listed f.totals a.total a.command _ h.0 h.1 _ _ c.after-expected.ensures c.value-found.ensures c.if-found-expected.true c.if-self-list.true)
 
 pub returns : goal.returns
 returns c =
-    let both =
-    takes-gap _ c.requires.0 _ _ _ _ _ c.value-apid.ensures c.place-p.ensures c.if-n-p.false
-    _ _ c.after-expected.ensures c.value-found.ensures c.if-found-expected.false c.if-places-listed.false _ c.noting-2.ensures
-    in record { result_value = both.0; sound = both.1 }
+    let a = c.args in
+    let f = c.self.inside in
+    let v = c.self.view_is in
+    let p = c.in-Some.place in
+    let h = subst (λ (s : State). (p ≡ place_of s.lasts a.command.apid.0) × (p < length s.lasts)) (sym v) c.in-Some.ensures in
+    let noted : Inside → Rows → Kept Reached =
+    λ x l. record { passed = gives tt; kept = record { state = record { lasts = take x.apids (set x.lasts p a.command); listed = x.listed; totals = with_accepted x.totals a.total }; rows = l } } in
+    elim c.if-found-expected.branch [
+      | then-found-expected+else-self-list w ↦
+          ap₂ noted w.self-inside-is w.list-is
+          ∙ moves _ f.lasts f.apids f.listed f.totals a.total a.command a.self.now a.list.now _ v
+          (takes-gap (length a.list.now) f.lasts f.apids f.listed f.totals a.total a.command p h.0 h.1 _ _ c.after-expected.ensures c.value-found.ensures w.if-found-expected.true w.if-self-list.false _ w.value.ensures)
+      | else-found-expected w ↦
+          ap₂ noted w.self-inside-is w.list-is
+          ∙ moves _ f.lasts f.apids f.listed f.totals a.total a.command a.self.now a.list.now _ v
+          (takes-next (length a.list.now) f.lasts f.apids f.listed f.totals a.total a.command p h.0 h.1 _ _ c.after-expected.ensures c.value-found.ensures w.if-found-expected.false)
+    ]

@@ -14,30 +14,30 @@ unfolding holds
 returns-then-self-start c =
     sym (refuse-yes _ _ _ (ap not (ne_eqb _ _ c.if-self-start.true)))
 
-pub returns-then-total-start : goal.returns-then-total-start
+pub returns-then-self-start-2 : goal.returns-then-self-start-2
 unfolding holds
-returns-then-total-start c =
+returns-then-self-start-2 c =
     let a = c.args in
     let h : a.self.total < a.start + trailer a.self.has_checksum = omega arith in
     sym (refuse-no _ _ _ (ap not (eq-eqb _ _ c.if-self-start.false)) ∙ refuse-yes _ _ _ (lt-ltb _ _ h))
 
-pub returns-then-total-start-2 : goal.returns-then-total-start-2
+pub returns-then-self-start-3 : goal.returns-then-self-start-3
 unfolding holds
-returns-then-total-start-2 c =
+returns-then-self-start-3 c =
     let a = c.args in
     let h : a.self.total < a.start + trailer a.self.has_checksum = omega arith in
     sym (refuse-no _ _ _ (ap not (eq-eqb _ _ c.if-self-start.false)) ∙ refuse-yes _ _ _ (lt-ltb _ _ h))
 
-pub returns-then-total-gt-MAX_TOTAL : goal.returns-then-total-gt-MAX_TOTAL
+pub returns-then-self-gt-MAX_TOTAL : goal.returns-then-self-gt-MAX_TOTAL
 unfolding holds
-returns-then-total-gt-MAX_TOTAL c =
+returns-then-self-gt-MAX_TOTAL c =
     let a = c.args in
     let h : a.start + trailer a.self.has_checksum ≤ a.self.total = omega arith in
-    sym (refuse-no _ _ _ (ap not (eq-eqb _ _ c.if-self-start.false)) ∙ refuse-no _ _ _ (le-ltb _ _ h) ∙ refuse-yes _ _ _ (lt-ltb _ _ c.if-total-gt-MAX_TOTAL.true))
+    sym (refuse-no _ _ _ (ap not (eq-eqb _ _ c.if-self-start.false)) ∙ refuse-no _ _ _ (le-ltb _ _ h) ∙ refuse-yes _ _ _ (lt-ltb _ _ c.if-self-gt-MAX_TOTAL.true))
 
 pub returns : goal.returns
 unfolding holds
 returns c =
     let a = c.args in
     let h : a.start + trailer a.self.has_checksum ≤ a.self.total = omega arith in
-    sym (refuse-no _ _ _ (ap not (eq-eqb _ _ c.if-self-start.false)) ∙ refuse-no _ _ _ (le-ltb _ _ h) ∙ refuse-no _ _ _ (le-ltb _ _ c.if-total-gt-MAX_TOTAL.false))
+    sym (refuse-no _ _ _ (ap not (eq-eqb _ _ c.if-self-start.false)) ∙ refuse-no _ _ _ (le-ltb _ _ h) ∙ refuse-no _ _ _ (le-ltb _ _ c.if-self-gt-MAX_TOTAL.false))

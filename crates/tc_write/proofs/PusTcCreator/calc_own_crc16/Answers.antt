@@ -11,8 +11,7 @@ pub returns : goal.returns
 returns c =
     let a = c.args in
     let t = a.self in
-    let w = c.write_to_slice_in.ensures.left in
     c.own_checksum.ensures ∙ own (command_in t.form) t.sp_header t.sec_header c.asks.result _
-    (hands t.form t.sec_header (replicate 9 0) _ _ _ refl (omega arith) w
-    c.sec_header_len.ensures c.front-second.ensures.result_value c.asks.result c.asks.ensures)
+    (hands t.form t.sec_header (replicate 9 0) _ _ _ refl (omega arith) c.write_to_slice_in.ensures.left
+    c.sec_header_len.ensures c.front.ensures.result_value c.asks.result c.asks.ensures)
     a.app_data.now

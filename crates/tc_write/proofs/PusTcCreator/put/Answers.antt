@@ -13,5 +13,5 @@ returns c =
     let t = a.self in
     put-wrote (command_in t.form) t.sp_header t.sec_header c.asks.result _
     (hands t.form t.sec_header (replicate 9 0) _ _ _ refl (omega arith) c.write_to_slice_in.ensures.left
-    c.sec_header_len.ensures c.front-second.ensures.result_value c.asks.result c.asks.ensures)
+    c.sec_header_len.ensures c.front.ensures.result_value c.asks.result c.asks.ensures)
     t.has_checksum a.app_data.now a.buf.now _ _ a.bare c.put.ensures

@@ -4,34 +4,26 @@ use mathlib.Core.Path.{refl, sym, ap, ◌∙◌}
 use mathlib.Core.List.{◌++◌}
 use native.Mathlib.Omega.{arith}
 use lib.ListN.{drop}
-use Rattle.space_packet.specs.Answer.{gives, check_answer}
-use Rattle.space_packet.proofs.Answers.{gives_then, refuses-then, left-refused, left-written}
+use Rattle.space_packet.specs.Answer.{gives}
+use Rattle.space_packet.proofs.Answers.{gives_then, left-written}
 use Rattle.ecss_write.proofs.Over.{over-more}
 use Rattle.tm_header.specs.Header.{field_octets, tm_octets, sec_write}
 use Rattle.tm_header.proofs.Checks.{asked-put}
 use Rattle.tm_header.proofs.PusTmSecondaryHeader.write_to_slice.Goals as goal
 
-pub returns-in-Err : goal.returns-in-Err
-unfolding sec_write
-returns-in-Err c =
-    let w = refuses-then _ _ _ (sym c.check-c.ensures ∙ ap check_answer c.in-Err.is) in
-    record { answered = sym w; left = sym (left-refused _ _ _ _ w) }
-
 pub put-requires : goal.put-requires
 put-requires c =
-    let q = asked-put _ _ _ (sym c.check-c.ensures ∙ ap check_answer c.in_default.is) in
-    (q.0, omega (arith, q.1.1))
+    let q = asked-put _ _ _ (sym c.in_ok-check.ensures) in (q.0, omega (arith, q.1.1))
 
 pub put_time-requires : goal.put_time-requires
 put_time-requires c =
-    let q = asked-put _ _ _ (sym c.check-c.ensures ∙ ap check_answer c.in_default.is) in
-    omega (arith, q.1.0, q.1.1)
+    let q = asked-put _ _ _ (sym c.in_ok-check.ensures) in omega (arith, q.1.0, q.1.1)
 
 pub returns : goal.returns
 unfolding sec_write tm_octets
 returns c =
     let a = c.args in
-    let e = sym c.check-c.ensures ∙ ap check_answer c.in_default.is in
+    let e = sym c.in_ok-check.ensures in
     let q = asked-put _ _ _ e in
     let w = gives_then _ _ _ e in
     record {

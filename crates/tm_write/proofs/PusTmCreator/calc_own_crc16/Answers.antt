@@ -16,5 +16,5 @@ returns c =
     c.own_checksum.ensures
     ∙ own (report_by t.time_len) t.sp_header x c.asks.result _
     (hands t.time_len x (replicate 23 0) _ _ _ refl (omega arith) c.write_to_slice.ensures.left
-    c.sec_header_len.ensures c.front-second.ensures.result_value c.asks.result c.asks.ensures)
+    c.sec_header_len.ensures c.front.ensures.result_value c.asks.result c.asks.ensures)
     a.source_data.now

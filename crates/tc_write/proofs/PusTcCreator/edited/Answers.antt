@@ -1,9 +1,0 @@
--- `PusTcCreator::edited` meets its contract: the creator with the header of the edit, beside the edit's own result.
-use mathlib.Core.Path.{ap}
-use Rattle.space_packet.specs.Answer.{check_answer}
-use Rattle.tc_write.specs.declared.PusTcCreator.{PusTcCreator}
-use Rattle.tc_write.proofs.PusTcCreator.edited.Goals as goal
-
-pub returns : goal.returns
-returns c =
-    ap (λ (t : PusTcCreator). record { passed = check_answer c.args.set.result; kept = t }) c.with_header.ensures
