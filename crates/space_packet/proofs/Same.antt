@@ -1,9 +1,10 @@
--- Headers are the same, by the call, where they are equal and only there.
+-- Headers are the same where they are equal and only there; and what `==` answers of them.
 use mathlib.Core.Path.{◌≡◌, refl, sym, ap, ap₂, ◌∙◌}
 use mathlib.Core.Bool.{Bool, true, ◌&&◌, and-eq-true_iff}
 use mathlib.Core.Logic.{◌↔◌}
 use Prim.Native.Nat.{ℕ}
 use lib.Dec.{eqb}
+use Rattle.std.proofs.Math.Bool.{and_assoc}
 use borrow.Author.Tests.{eqb-true, eq-eqb}
 use denote.Enum.Bare.{sameb}
 use Rattle.space_packet.specs.Bits.{flag_number, lowest}
@@ -12,9 +13,13 @@ use Rattle.space_packet.specs.Header.{same_header}
 use Rattle.space_packet.specs.declared.PacketType.{PacketType}
 use Rattle.space_packet.specs.declared.PacketType.TheVariants.{Tm, Tc}
 use Rattle.space_packet.specs.contracts.PacketType as PacketType
+use Rattle.space_packet.specs.contracts.SequenceFlags as Flags
+use Rattle.space_packet.specs.contracts.SpacePacketHeaderPartialEq.TheImpl as Primary
+use Rattle.space_packet.specs.declared.SequenceFlags.{SequenceFlags}
+use Rattle.space_packet.specs.declared.SequenceFlags.TheVariants.{ContinuationSegment, FirstSegment, LastSegment, Unsegmented}
 use Rattle.space_packet.specs.declared.SpacePacketHeader.{SpacePacketHeader}
 use Rattle.space_packet.proofs.Answers.{by-inverse}
-use Rattle.space_packet.proofs.Numbers.{type-back, flag-back, flags-back}
+use Rattle.space_packet.proofs.Numbers.{type-back, flag-back, flags-back, beq-flag}
 
 equal-fields : (g h : SpacePacketHeader) → same_header g h ≡ true → g ≡ h
 unfolding same_header
@@ -78,3 +83,27 @@ same-type Tm Tm = refl
 same-type Tm Tc = refl
 same-type Tc Tm = refl
 same-type Tc Tc = refl
+
+-- so are the sequence flags
+same-flags : (a b : SequenceFlags) → sameb Flags.the_type a b ≡ eqb (flags_number a) (flags_number b)
+same-flags ContinuationSegment ContinuationSegment = refl
+same-flags ContinuationSegment FirstSegment = refl
+same-flags ContinuationSegment LastSegment = refl
+same-flags ContinuationSegment Unsegmented = refl
+same-flags FirstSegment ContinuationSegment = refl
+same-flags FirstSegment FirstSegment = refl
+same-flags FirstSegment LastSegment = refl
+same-flags FirstSegment Unsegmented = refl
+same-flags LastSegment ContinuationSegment = refl
+same-flags LastSegment FirstSegment = refl
+same-flags LastSegment LastSegment = refl
+same-flags LastSegment Unsegmented = refl
+same-flags Unsegmented ContinuationSegment = refl
+same-flags Unsegmented FirstSegment = refl
+same-flags Unsegmented LastSegment = refl
+same-flags Unsegmented Unsegmented = refl
+
+-- the answer of `==` is the definition's
+pub compared-primary : (g h : SpacePacketHeader) → Primary.ghosts.eq g h ≡ same_header g h
+unfolding same_header
+compared-primary g h = simp (same-type, same-flags, beq-flag, and_assoc)

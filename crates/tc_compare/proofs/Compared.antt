@@ -6,12 +6,12 @@ use mathlib.Core.Bool.{Bool, true, false≢true, ◌&&◌, and-eq-true_iff}
 use mathlib.Core.List.{List}
 use Rattle.space_packet.specs.Answer.{Answer, gives, refuses}
 use Rattle.space_packet.specs.Header.{same_header}
-use Rattle.space_packet.proofs.Same.{same-header}
+use Rattle.space_packet.proofs.Same.{same-header, compared-primary}
 use Rattle.std.proofs.Math.Bool.{and_assoc}
 use Rattle.ecss.proofs.Octets.{same-octets, pairwise-same, ReadAlike, same_read}
 use Rattle.tc_header.specs.Header.{same_sec}
 use Rattle.tc_header.specs.declared.TcForm.{TcForm}
-use Rattle.tc_header.proofs.Same.{same-sec, compared-primary, compared-secondary}
+use Rattle.tc_header.proofs.Same.{same-sec, compared-secondary}
 use Rattle.tc_write.specs.declared.PusTcCreator.{PusTcCreator}
 use Rattle.tc_read.specs.Read.{read_in, app_data_in, raw_data_in}
 use Rattle.tc_compare.specs.Compare.{reports_creator, equals_creator_in, equals_reader_in}

@@ -4,18 +4,9 @@ use mathlib.Core.Bool.{true}
 use mathlib.Core.Logic.{◌↔◌}
 use native.Mathlib.Omega.{arith}
 use lib.Dec.{eqb}
-use Rattle.std.proofs.Math.Bool.{and_assoc}
 use borrow.Author.Tests.{eqb-true}
 use denote.Enum.Bare.{sameb}
-use Rattle.space_packet.specs.Fields.{flags_number}
-use Rattle.space_packet.specs.Header.{same_header}
-use Rattle.space_packet.specs.contracts.SequenceFlags as Flags
-use Rattle.space_packet.specs.contracts.SpacePacketHeaderPartialEq.TheImpl as Primary
-use Rattle.space_packet.specs.declared.SequenceFlags.{SequenceFlags}
-use Rattle.space_packet.specs.declared.SequenceFlags.TheVariants.{ContinuationSegment, FirstSegment, LastSegment, Unsegmented}
-use Rattle.space_packet.specs.declared.SpacePacketHeader.{SpacePacketHeader}
-use Rattle.space_packet.proofs.Numbers.{beq-flag}
-use Rattle.space_packet.proofs.Same.{first-same, itself, same-type}
+use Rattle.space_packet.proofs.Same.{first-same, itself}
 use Rattle.ecss.specs.Version.{version_number}
 use Rattle.ecss.specs.contracts.PusVersion as Version
 use Rattle.ecss.specs.declared.PusVersion.{PusVersion}
@@ -57,28 +48,6 @@ same-version PusA PusC = refl
 same-version PusC EsaPus = refl
 same-version PusC PusA = refl
 same-version PusC PusC = refl
-
-same-flags : (a b : SequenceFlags) → sameb Flags.the_type a b ≡ eqb (flags_number a) (flags_number b)
-same-flags ContinuationSegment ContinuationSegment = refl
-same-flags ContinuationSegment FirstSegment = refl
-same-flags ContinuationSegment LastSegment = refl
-same-flags ContinuationSegment Unsegmented = refl
-same-flags FirstSegment ContinuationSegment = refl
-same-flags FirstSegment FirstSegment = refl
-same-flags FirstSegment LastSegment = refl
-same-flags FirstSegment Unsegmented = refl
-same-flags LastSegment ContinuationSegment = refl
-same-flags LastSegment FirstSegment = refl
-same-flags LastSegment LastSegment = refl
-same-flags LastSegment Unsegmented = refl
-same-flags Unsegmented ContinuationSegment = refl
-same-flags Unsegmented FirstSegment = refl
-same-flags Unsegmented LastSegment = refl
-same-flags Unsegmented Unsegmented = refl
-
-pub compared-primary : (g h : SpacePacketHeader) → Primary.ghosts.eq g h ≡ same_header g h
-unfolding same_header
-compared-primary g h = simp (same-type, same-flags, beq-flag, and_assoc)
 
 pub compared-secondary : (x y : PusTcSecondaryHeader) → Secondary.ghosts.eq x y ≡ same_sec x y
 unfolding same_sec

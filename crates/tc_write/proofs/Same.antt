@@ -6,7 +6,7 @@ use mathlib.Core.Logic.{◌↔◌}
 use Prim.Native.Nat.{ℕ}
 use lib.Dec.{eqb}
 use borrow.Author.Tests.{eqb-true, eq-eqb}
-use Rattle.space_packet.proofs.Same.{same-header, both, same_number, same_flag}
+use Rattle.space_packet.proofs.Same.{same-header, both, same_number, same_flag, compared-primary}
 use Rattle.ecss.proofs.Octets.{same-octets, pairwise-same}
 use lib.Pointwise.{pointwise}
 use native.Mathlib.Omega.{arith}
@@ -21,7 +21,7 @@ use Rattle.ecss.specs.declared.PusVersion.{PusVersion}
 use Rattle.tc_header.specs.Form.{same_form}
 use Rattle.tc_header.specs.declared.TcForm.{TcForm}
 use Rattle.ecss.proofs.Versions.{version-told}
-use Rattle.tc_header.proofs.Same.{same-sec, compared-primary, compared-secondary, compared-form}
+use Rattle.tc_header.proofs.Same.{same-sec, compared-secondary, compared-form}
 use Rattle.tc_write.specs.Creator.{creator_in, same_creator}
 use Rattle.tc_write.specs.declared.PusTcCreator.{PusTcCreator}
 

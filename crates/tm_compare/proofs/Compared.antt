@@ -8,11 +8,11 @@ use lib.Dec.{eqb}
 use borrow.Author.Tests.{eq-eqb, eqb-true}
 use Rattle.space_packet.specs.Answer.{Answer, gives, refuses}
 use Rattle.space_packet.specs.Header.{same_header}
-use Rattle.space_packet.proofs.Same.{same-header}
+use Rattle.space_packet.proofs.Same.{same-header, compared-primary}
 use Rattle.ecss.specs.Frame.{same_octets}
 use Rattle.ecss.proofs.Octets.{same-octets, pairwise-same, ReadAlike, same_read}
 use Rattle.tm_header.specs.Header.{same_sec}
-use Rattle.tm_header.proofs.Same.{same-sec, compared-primary, compared-secondary}
+use Rattle.tm_header.proofs.Same.{same-sec, compared-secondary}
 use Rattle.tm_write.specs.declared.PusTmCreator.{PusTmCreator}
 use Rattle.tm_read.specs.Read.{read_in, timestamp_in, source_data_in, raw_data_in}
 use Rattle.tm_read.specs.declared.PusTmRecord.{PusTmRecord}

@@ -7,10 +7,10 @@ use native.Mathlib.Omega.{arith}
 use mathlib.Core.List.{List}
 use mathlib.Core.Logic.{◌↔◌}
 use Prim.Native.Nat.{ℕ}
-use Rattle.space_packet.proofs.Same.{same-header, both, same_number, same_flag}
+use Rattle.space_packet.proofs.Same.{same-header, both, same_number, same_flag, compared-primary}
 use Rattle.ecss.proofs.Octets.{same-octets, pairwise-same}
 use lib.Pointwise.{pointwise}
-use Rattle.tm_header.proofs.Same.{same-sec, compared-primary, compared-secondary}
+use Rattle.tm_header.proofs.Same.{same-sec, compared-secondary}
 use Rattle.space_packet.proofs.Numbers.{beq-flag}
 use Rattle.space_packet.specs.contracts.SpacePacketHeaderPartialEq.TheImpl as Primary
 use Rattle.tm_header.specs.contracts.PusTmSecondaryHeaderPartialEq.TheImpl as Secondary
