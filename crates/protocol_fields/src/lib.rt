@@ -3,8 +3,10 @@
 // A line is found good as a whole before anything is run: each call that reads a field answers None where it is not of its kind.
 #![tactic(auto)]
 
-ghost use Rattle.std.specs.Prelude.{◌+◌, length, unwrap_or, option_map};
+ghost use Rattle.std.specs.Prelude.{◌≡◌, ◌+◌, ltb, length, drop, unwrap_or, option_map, Some, None};
+ghost use Rattle.text.specs.Pieces.{pick};
 ghost use Rattle.std.specs.Iterator.{at_most};
+ghost use Rattle.protocol_fields.specs.Cut.{piece_in, behind_in};
 
 pub mod headers;
 pub mod items;
@@ -62,17 +64,27 @@ impl<'a> Pieces<'a> {
 impl<'a> Iterator for Pieces<'a> {
     type Item = &'a [u8];
 
+    ghost next_gives = { λ p piece q. (option_map (λ s. s.now) piece ≡ piece_in p.separator (option_map (λ s. s.now) p.rest)) × (option_map (λ s. s.now) q.rest ≡ behind_in p.separator (option_map (λ s. s.now) p.rest)) × (q.separator ≡ p.separator) };
+
     ghost remaining = { λ p. at_most (unwrap_or (option_map (λ s. length s.now + 1) p.rest) 0) };
 
+    #[tactic(auto, unfolding(text::specs::Pieces::piece_of))]
     fn next(&mut self) -> Option<&'a [u8]> {
         let rest = self.rest?;
-        let Some(end) = rest.iter().position(|c| *c == self.separator) else {
-            self.rest = None;
-            return Some(rest);
-        };
-        self.rest = Some(&rest[end + 1..]);
-        Some(&rest[..end])
+        let end = text::seek(rest, 0, self.separator);
+        self.rest = behind(rest, end);
+        Some(text::part(rest, 0, end))
     }
+}
+
+// What stands behind the separator at a place; None where the text ends there.
+fn behind(s: &[u8], end: usize) -> Option<&[u8]>
+    ensures { option_map (λ p. p.now) result ≡ pick (ltb end (length s.now)) (Some (drop (end + 1) s.now)) None }
+{
+    if end < s.len() {
+        return Some(&s[end + 1..]);
+    }
+    None
 }
 
 // The two pieces of a text that has two.
