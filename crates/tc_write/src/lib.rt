@@ -16,7 +16,7 @@ ghost use Rattle.tc_header.specs.Form.{form_check, source_len, source_check};
 ghost use Rattle.tc_header.specs.Header.{ack_check, ack_of, sec_from, fields_check, tc};
 ghost use Rattle.tc_write.specs.Command.{command_in};
 ghost use Rattle.tc_write.specs.Creator.{creator_in, new_in, new_of, with_header, with_sec, updated, own_checksum, checksum_of, PacketWrote, ContentWrote, same_creator};
-ghost use Rattle.tc_write.specs.Builder.{builder_of, builder_in, default_builder};
+ghost use Rattle.tc_write.specs.Builder.{builder_of, builder_in, default_builder, with_flags};
 
 use ecss::{CreatorConfig, MessageTypeId, PusError, PusPacket, PusVersion, frame};
 use ecss_write::packet;
@@ -511,7 +511,7 @@ impl PusTcBuilder {
     }
 
     pub fn with_ack_flags(&mut self, ack_flags: AckFlags) -> Result<(), PusError>
-        ensures { outcome result self.new ≡ set_if (ack_check ack_flags) self.old (builder_of (with_sec self.old.0 (sec_from self.old.0.sec_header.message_type_id ack_flags self.old.0.sec_header.source_id self.old.0.sec_header.version))) }
+        ensures { outcome result self.new ≡ with_flags self.old ack_flags }
     {
         self.0.set_ack_flags(ack_flags)
     }
