@@ -99,7 +99,9 @@ pub fn fill(part: &mut [u8], data: &[u8]) -> Result<usize, PusError>
     ensures { Wrote (in_buffer (length part.old) (length «data».now)) «data».now part.old result part.new }
 {
     let n = in_buffer(part.len(), data.len())?;
-    part[..n].copy_from_slice(data);
+    for (place, octet) in data.iter().enumerate() {
+        part[place] = *octet;
+    }
     Ok(n)
 }
 
