@@ -1,66 +1,79 @@
 -- Laws of the list of parameters: its check row by row, and its search.
-use Prim.Native.Nat.{ℕ, zero, suc, ◌+◌, ◌≤◌, ◌<◌}
+use Prim.Native.Nat.{ℕ, zero, suc, ◌+◌, ◌-◌, ◌≤◌, ◌<◌}
 use mathlib.Core.Path.{◌≡◌, refl, sym, ap, ap₂, ◌∙◌}
 use mathlib.Core.Bool.{Bool, true, false, not, ◌&&◌, ◌||◌, and-eq-true_iff}
 use mathlib.Core.List.{List, [], ◌∷◌}
 use native.Mathlib.Omega.{arith}
 use lib.ListN.{length, get_or}
 use lib.Dec.{eqb, ltb}
+use denote.Ref.{Bor}
 use borrow.Author.Tests.{ne_eqb, not-false}
 use Rattle.std.specs.Prelude.{Option, Some, None, is_some, cond}
-use Rattle.std.specs.List.{find, IsAllAdjacentAnswer, list_all}
+use Rattle.std.specs.List.{find, IsAllAdjacentAnswer, slice_get}
+use Rattle.std.specs.Option.{MatchOption, option_copied}
 use Rattle.space_packet.specs.Bits.{pick}
 use Rattle.space_packet.specs.Answer.{gives}
 use Rattle.space_packet.proofs.Answers.{refuse-gives}
 use Rattle.param_value.specs.Values.{octets_for}
-use Rattle.params.specs.Parameters.{Row, id_of, octets_by, below, row_good, list_good, list_check, known, row_of, row_in}
+use Rattle.params.specs.Parameters.{Row, id_of, octets_by, list_good, list_check, known, row_of, row_in}
 
--- ---- the check, as the code makes it: all types are named, and each ID is below the next
+-- ---- the check, as the code makes it: of each two neighbours, and of the last row
 
 abbrev pub named : Row → Bool
 named r = not (eqb (octets_by r) 0)
 
-abbrev pub lower : Row → Row → Bool
-lower r q = ltb (id_of r) (id_of q)
+-- the type of the first is named, and its ID is below the second's
+abbrev pub stands : Row → Row → Bool
+stands r q = named r && ltb (id_of r) (id_of q)
 
-abbrev pub rises : List Row → Bool
-rises [] = true
-rises (r ∷ l) = below r l && rises l
+-- the type of the row is named, where there is one
+abbrev pub named_if_any : Option Row → Bool
+named_if_any None = true
+named_if_any (Some r) = named r
 
-four : (a b c d : Bool) → ((a && b) && (c && d)) ≡ ((a && c) && (b && d))
-four true true c d = refl
-four true false true d = refl
-four true false false d = refl
-four false b c d = refl
+abbrev pub last_named : List Row → Bool
+last_named l = named_if_any (slice_get l (length l - 1))
 
-pub good-is : (l : List Row) → list_good l ≡ (list_all named l && rises l)
+-- what is answered of the last row, where there is one, is whether its type is named
+pub last-by : (l : List Row) (o : Option (Bor Row)) (b : Bool) (P : Bor Row → Type 0) → option_copied o ≡ slice_get l (length l - 1)
+    → MatchOption o (b ≡ true) P → ((r : Bor Row) → P r → b ≡ named r.now) → b ≡ last_named l
+last-by l None b P e m h = m ∙ ap named_if_any e
+last-by l (Some r) b P e m h = h r m ∙ ap named_if_any e
+
+next-stands : (b : Bool) (r : Row) (l : List Row) (k : ℕ) (d : Row) → b ≡ stands (get_or (r ∷ l) (suc k) d) (get_or (r ∷ l) (suc k + 1) d) → b ≡ stands (get_or l k d) (get_or l (k + 1) d)
+next-stands b r l k d e = let n : suc k + 1 ≡ suc (k + 1) = omega arith in e ∙ ap (λ (i : ℕ). stands (get_or l k d) (get_or (r ∷ l) i d)) n
+
+last-on : (r q : Row) (l : List Row) → last_named (q ∷ l) ≡ last_named (r ∷ q ∷ l)
+last-on r q l =
+    let n : suc (length (q ∷ l) - 1) ≡ length (r ∷ q ∷ l) - 1 = omega arith in ap (λ (i : ℕ). named_if_any (slice_get (r ∷ q ∷ l) i)) n
+
+all-stand : (l : List Row) → ((k : ℕ) (d : Row) → k + 1 < length l → true ≡ stands (get_or l k d) (get_or l (k + 1) d)) → list_good l ≡ last_named l
 unfolding list_good
-good-is [] = refl
-good-is (r ∷ l) = ap (λ (b : Bool). row_good r l && b) (good-is l) ∙ four (named r) (below r l) (list_all named l) (rises l)
+all-stand [] h = refl
+all-stand (r ∷ []) h = of-one (named r)
+  where
+    of-one : (b : Bool) → ((b && true) && true) ≡ b
+    of-one true = refl
+    of-one false = refl
+all-stand (r ∷ q ∷ l) h =
+    ap₂ (λ (a b : Bool). a && b) (sym (h 0 r (omega arith))) (all-stand (q ∷ l) (λ k d p. next-stands true r (q ∷ l) k d (h (suc k) d (omega (arith, p)))))
+    ∙ last-on r q l
 
-next-lower : (b : Bool) (r : Row) (l : List Row) (k : ℕ) (d : Row) → b ≡ lower (get_or (r ∷ l) (suc k) d) (get_or (r ∷ l) (suc k + 1) d) → b ≡ lower (get_or l k d) (get_or l (k + 1) d)
-next-lower b r l k d e = let n : suc k + 1 ≡ suc (k + 1) = omega arith in e ∙ ap (λ (i : ℕ). lower (get_or l k d) (get_or (r ∷ l) i d)) n
-
-rising : (l : List Row) → ((k : ℕ) (d : Row) → k + 1 < length l → true ≡ lower (get_or l k d) (get_or l (k + 1) d)) → rises l ≡ true
-rising [] h = refl
-rising (r ∷ []) h = refl
-rising (r ∷ q ∷ l) h =
-    ap₂ (λ (a b : Bool). a && b) (sym (h 0 r (omega arith))) (rising (q ∷ l) (λ k d p. next-lower true r (q ∷ l) k d (h (suc k) d (omega (arith, p)))))
-
-falling : (l : List Row) (k : ℕ) → k + 1 < length l → ((d : Row) → false ≡ lower (get_or l k d) (get_or l (k + 1) d)) → rises l ≡ false
-falling [] k p e = absurd (omega arith)
-falling (r ∷ []) k p e = absurd (omega arith)
-falling (r ∷ q ∷ l) zero p e = ap (λ (b : Bool). b && rises (q ∷ l)) (sym (e r))
-falling (r ∷ q ∷ l) (suc k) p e =
-    ap (λ (b : Bool). lower r q && b) (falling (q ∷ l) k (omega (arith, p)) (λ d. next-lower false r (q ∷ l) k d (e d))) ∙ and-false (lower r q)
+one-falls : (l : List Row) (k : ℕ) → k + 1 < length l → ((d : Row) → false ≡ stands (get_or l k d) (get_or l (k + 1) d)) → list_good l ≡ false
+unfolding list_good
+one-falls [] k p e = absurd (omega arith)
+one-falls (r ∷ []) k p e = absurd (omega arith)
+one-falls (r ∷ q ∷ l) zero p e = ap (λ (b : Bool). b && list_good (q ∷ l)) (sym (e r))
+one-falls (r ∷ q ∷ l) (suc k) p e =
+    ap (λ (b : Bool). stands r q && b) (one-falls (q ∷ l) k (omega (arith, p)) (λ d. next-stands false r (q ∷ l) k d (e d))) ∙ and-false (stands r q)
   where
     and-false : (b : Bool) → (b && false) ≡ false
     and-false true = refl
     and-false false = refl
 
-pub rises-by : (b : Bool) (l : List Row) → IsAllAdjacentAnswer (λ r q a. a ≡ lower r q) l b → b ≡ rises l
-rises-by true l h = sym (rising l h)
-rises-by false l h = sym (falling l h.0 h.1 h.2)
+pub good-is : (b : Bool) (l : List Row) → IsAllAdjacentAnswer (λ r q a. a ≡ stands r q) l b → list_good l ≡ (b && last_named l)
+good-is true l h = all-stand l h
+good-is false l h = one-falls l h.0 h.1 h.2
 
 -- the check passes just a good list
 pub good-by : (l : List Row) → list_check l ≡ gives tt → list_good l ≡ true

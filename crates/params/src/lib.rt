@@ -3,10 +3,10 @@
 #![tactic(auto)]
 
 ghost use Rattle.space_packet.specs.Answer.{answer_of, outcome};
-ghost use Rattle.std.specs.Prelude.{◌≡◌, true, [], ◌++◌, ◌+◌, ◌≤◌, OnOk, IfOk, length, take, drop};
+ghost use Rattle.std.specs.Prelude.{◌≡◌, true, not, eqb, [], ◌++◌, ◌+◌, ◌≤◌, OnOk, IfOk, length, take, drop};
 ghost use Rattle.space_packet.specs.Wrote.{Wrote};
 ghost use Rattle.param_value.specs.Octets.{given_by};
-ghost use Rattle.params.specs.Parameters.{list_good, list_check, known, row_in};
+ghost use Rattle.params.specs.Parameters.{octets_by, list_good, list_check, known, row_in};
 ghost use Rattle.params.specs.Request.{holding, pushed, pairs_of, pair_at, read_pair, read_in, ids_known, pair_octets, pairs_octets, record_octets, write_in, length_of};
 ghost use Rattle.params.specs.Places.{HasRoom};
 
@@ -41,13 +41,19 @@ struct Found {
 
 // ---- the list; a row stays three numbers, as specs/Parameters.antt and the theorems on it have it
 
-// Each type is named, and each ID is below the next.
+// The type of a row is named.
+fn is_named(row: &[u16; 3]) -> bool
+    ensures { result ≡ not (eqb (octets_by row.now) 0) }
+{
+    param_value::octets_for(row[1], row[2]) != 0
+}
+
+// Each type is named, and each ID is below the next. Row by row, up to the first that is not good.
 fn is_good(list: &[[u16; 3]]) -> bool
     ensures { result ≡ list_good list.now }
 {
-    list.iter()
-        .all(|row| param_value::octets_for(row[1], row[2]) != 0)
-        && list.is_sorted_by(|row, next| row[0] < next[0])
+    list.is_sorted_by(|row, next| is_named(row) && row[0] < next[0])
+        && list.last().is_none_or(is_named)
 }
 
 // 21 where the list is not strictly rising, or has a type that is not named.

@@ -1,23 +1,21 @@
--- `params::is_good` meets its contract: the types of all rows, and then the IDs of each two neighbours.
+-- `params::is_good` meets its contract: each two neighbours, and then the last row.
 use mathlib.Core.Path.{◌≡◌, sym, ap, ◌∙◌}
 use mathlib.Core.Bool.{Bool, ◌&&◌}
 use Rattle.std.proofs.Common.{rules, tests}
-use Rattle.std.specs.List.{list_all}
-use Rattle.std.proofs.lemmas.Iterator.{YieldsList-from_slice}
-use Rattle.std.proofs.lemmas.Iterator.Search.{all_from_yields_List}
 use Rattle.std.proofs.lemmas.List.Sorted.{answers_always}
-use Rattle.params.proofs.Lists.{named, lower, rises, good-is, rises-by}
+use Rattle.params.specs.Parameters.{list_good}
+use Rattle.params.proofs.Lists.{stands, last_named, last-by, good-is}
 use Rattle.params.proofs.is_good.Goals as goal
 
-pub returns-then-all : goal.returns-then-all
-returns-then-all c =
+pub returns-then-is_sorted_by : goal.returns-then-is_sorted_by
+returns-then-is_sorted_by c =
     let l = c.args.list.now in
-    let a : c.all.result ≡ list_all named l = all_from_yields_List named _ _ _ c.all.ensures.ran (YieldsList-from_slice l cc) (λ x b q k. search (rules, tests)) in
-    rises-by _ l (c.is_sorted_by.ensures.cases lower (answers_always _ _ _ (λ f a r g h. search (rules, tests))))
-    ∙ sym (good-is l ∙ ap (λ (b : Bool). b && rises l) (sym a ∙ c.if-all.true))
+    let good : list_good l ≡ (c.is_sorted_by.result && last_named l) = good-is _ l (c.is_sorted_by.ensures.cases stands (answers_always _ _ _ (λ f a r g h. search (rules, tests)))) in
+    let last : c.is_none_or.result ≡ last_named l = last-by l c.last.result _ _ c.last.ensures.value c.is_none_or.ensures (λ r h. search (rules, tests)) in
+    last ∙ sym (good ∙ ap (λ (b : Bool). b && last_named l) c.if-is_sorted_by.true)
 
-pub returns-else-all : goal.returns-else-all
-returns-else-all c =
+pub returns-else-is_sorted_by : goal.returns-else-is_sorted_by
+returns-else-is_sorted_by c =
     let l = c.args.list.now in
-    let a : c.all.result ≡ list_all named l = all_from_yields_List named _ _ _ c.all.ensures.ran (YieldsList-from_slice l cc) (λ x b q k. search (rules, tests)) in
-    c.if-all.false ∙ sym (good-is l ∙ ap (λ (b : Bool). b && rises l) (sym a ∙ c.if-all.false))
+    let good : list_good l ≡ (c.is_sorted_by.result && last_named l) = good-is _ l (c.is_sorted_by.ensures.cases stands (answers_always _ _ _ (λ f a r g h. search (rules, tests)))) in
+    c.if-is_sorted_by.false ∙ sym (good ∙ ap (λ (b : Bool). b && last_named l) c.if-is_sorted_by.false)
