@@ -8,12 +8,20 @@ pub(crate) fn reply(mut fields: Pieces<'_>, room: &mut [u8]) -> Option<()> {
     let places: u16 = number(fields.next()?)?;
     let (capture, _) = octets(fields.next()?, room)?;
     fields.end()?;
-    let mut room = [[0u16; 3]; 65535];
-    answer(capture, room.get_mut(..usize::from(places))?);
+    answer(places, capture);
     Some(())
 }
 
-fn answer(capture: &[u8], list: &mut [[u16; 3]]) {
+fn answer(places: u16, capture: &[u8]) {
+    let mut list = [[0; 3]; 65535];
+    if let Some(list) = list.get_mut(..usize::from(places)) {
+        listed(capture, list);
+    }
+}
+
+// It stays a call: where it is one piece with the list above, LLVM fills that a second time, row by row.
+#[inline(never)]
+fn listed(capture: &[u8], list: &mut [[u16; 3]]) {
     let found = gaps::list_gaps(capture, list);
     ended(found.result);
     if found.listed == 0 {
