@@ -6,6 +6,7 @@ use ecss::{CreatorConfig, MessageTypeId, PusError};
 use param_value::Value;
 use params::{Pair, Params};
 use space_packet::SpHeader;
+use std::fmt::{self, Display, Formatter};
 use std::io;
 use tm_header::PusTmSecondaryHeader;
 use tm_write::PusTmCreator;
@@ -74,11 +75,17 @@ fn set_request(list: &[[u16; 3]]) -> Result<[u8; 9], PusError> {
     Ok(data)
 }
 
-fn print_octets(rt: &impl Print, octets: &[u8]) -> io::Result<()> {
-    for octet in octets {
-        print!(rt; "{octet:02X}")?;
+// Octets as pairs of digits, which are printed at once.
+#[derive(Clone, Copy)]
+struct Hex<'a>(&'a [u8]);
+
+impl Display for Hex<'_> {
+    fn fmt<W: fmt::Write>(&self, f: &mut Formatter<W>) -> fmt::Result {
+        for octet in self.0 {
+            write!(f, "{octet:02X}")?;
+        }
+        Ok(())
     }
-    println!(rt)
 }
 
 fn print_value(rt: &impl Print, value: Value) -> io::Result<()> {
@@ -110,8 +117,7 @@ fn set_parameters(rt: &impl Print, command: &[u8]) -> io::Result<()> {
     let list = [[7, 3, 4], [8, 4, 13], [9, 5, 1]];
     match set_request(&list) {
         Ok(data) => {
-            print!(rt; "set request ")?;
-            print_octets(rt, &data)?;
+            println!(rt; "set request {}", Hex(&data))?;
             read_request(rt, &list, tc_read::app_data(command, true))?;
             read_request(rt, &list, &data[..8])
         }

@@ -3,6 +3,7 @@
 
 use ecss::{CreatorConfig, MessageTypeId, PusError, PusPacket};
 use space_packet::{Apid, CcsdsPacket, SeqCount, SpHeader};
+use std::fmt::{self, Display, Formatter};
 use std::io;
 use tc_header::{AckFlags, PusTcSecondaryHeader, TcForm};
 use tc_read::PusTcRecord;
@@ -91,11 +92,17 @@ fn length_field(data: &[u8]) -> Result<usize, PusError> {
 
 // ---- judged and printed
 
-fn print_octets(rt: &impl Print, octets: &[u8]) -> io::Result<()> {
-    for octet in octets {
-        print!(rt; "{octet:02X}")?;
+// Octets as pairs of digits, which are printed at once.
+#[derive(Clone, Copy)]
+struct Hex<'a>(&'a [u8]);
+
+impl Display for Hex<'_> {
+    fn fmt<W: fmt::Write>(&self, f: &mut Formatter<W>) -> fmt::Result {
+        for octet in self.0 {
+            write!(f, "{octet:02X}")?;
+        }
+        Ok(())
     }
-    println!(rt)
 }
 
 fn print_refusal(rt: &impl Print, refusal: PusError) -> io::Result<()> {
@@ -145,7 +152,7 @@ fn judge_in(rt: &impl Print, form: TcForm, packet: &[u8]) -> io::Result<()> {
 fn show(rt: &impl Print, packet: Result<[u8; 13], PusError>) -> io::Result<()> {
     match packet {
         Ok(octets) => {
-            print_octets(rt, &octets)?;
+            println!(rt; "{}", Hex(&octets))?;
             judge(rt, &octets)
         }
         Err(e) => print_refusal(rt, e),
@@ -155,7 +162,7 @@ fn show(rt: &impl Print, packet: Result<[u8; 13], PusError>) -> io::Result<()> {
 fn show_in(rt: &impl Print, form: TcForm) -> io::Result<()> {
     match in_form(form) {
         Ok(octets) => {
-            print_octets(rt, &octets)?;
+            println!(rt; "{}", Hex(&octets))?;
             judge_in(rt, form, &octets)
         }
         Err(e) => print_refusal(rt, e),
@@ -170,7 +177,7 @@ fn main(rt: HostRuntime) -> io::Result<()> {
     print_number(&rt, "octets", write_no_crc(&mut [0; 12]))?;
     let mut packet = [255; 13];
     print_number(&rt, "octets", write_no_crc(&mut packet))?;
-    print_octets(&rt, &packet)?;
+    println!(rt; "{}", Hex(&packet))?;
     judge(&rt, &packet)?;
     // The largest packet, and one octet more.
     print_number(&rt, "length field", length_field(&[0; 65529]))?;

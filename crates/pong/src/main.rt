@@ -5,6 +5,7 @@
 use ecss::{CreatorConfig, MessageTypeId, PusError, PusPacket};
 use space_packet::{Apid, CcsdsPacket, SeqCount, SpHeader};
 use stations::Station;
+use std::fmt::{self, Display, Formatter};
 use std::io;
 use tm_header::PusTmSecondaryHeader;
 use tm_read::PusTmRecord;
@@ -55,11 +56,17 @@ fn reserved(time: &[u8], data: &[u8]) -> Result<[u8; 24], PusError> {
 
 // ---- judged and printed
 
-fn print_octets(rt: &impl Print, octets: &[u8]) -> io::Result<()> {
-    for octet in octets {
-        print!(rt; "{octet:02X}")?;
+// Octets as pairs of digits, which are printed at once.
+#[derive(Clone, Copy)]
+struct Hex<'a>(&'a [u8]);
+
+impl Display for Hex<'_> {
+    fn fmt<W: fmt::Write>(&self, f: &mut Formatter<W>) -> fmt::Result {
+        for octet in self.0 {
+            write!(f, "{octet:02X}")?;
+        }
+        Ok(())
     }
-    println!(rt)
 }
 
 fn print_refusal(rt: &impl Print, refusal: PusError) -> io::Result<()> {
@@ -82,10 +89,11 @@ fn judge(rt: &impl Print, time_len: u8, packet: &[u8]) -> io::Result<()> {
     match tm_strict::judge(time_len, packet) {
         Ok(record) => {
             print_record(rt, record)?;
-            print!(rt; "time ")?;
-            print_octets(rt, tm_read::timestamp(time_len, packet, true))?;
-            print!(rt; "data ")?;
-            print_octets(rt, tm_read::source_data(time_len, packet, true))
+            println!(rt; "time {}", Hex(tm_read::timestamp(time_len, packet, true)))?;
+            println!(rt;
+                "data {}",
+                Hex(tm_read::source_data(time_len, packet, true))
+            )
         }
         Err(e) => print_refusal(rt, e),
     }
@@ -102,7 +110,7 @@ fn judge_as_command(rt: &impl Print, packet: &[u8]) -> io::Result<()> {
 fn show(rt: &impl Print, packet: Result<[u8; 24], PusError>) -> io::Result<()> {
     match packet {
         Ok(octets) => {
-            print_octets(rt, &octets)?;
+            println!(rt; "{}", Hex(&octets))?;
             judge(rt, TIME_LEN, &octets)?;
             judge_as_command(rt, &octets)
         }
@@ -118,8 +126,10 @@ fn handover(rt: &impl Print, first: &[u8], second: &[u8]) -> io::Result<()> {
         Station::Second => "second",
         Station::Neither(..) => "neither",
     };
-    print!(rt; "{station} station ")?;
-    print_octets(rt, stations::best(TIME_LEN, first, second))
+    println!(rt;
+        "{station} station {}",
+        Hex(stations::best(TIME_LEN, first, second))
+    )
 }
 
 fn main(rt: HostRuntime) -> io::Result<()> {
